@@ -116,7 +116,7 @@ fn time_named<B: Naming>(
     deeds: sides::Opened,
     mut own: Seat,
 ) -> Result<Best, Fault>
-    requires state { IsLocked B.name B.table B.board B.sizes B.seats opened }
+    requires state { IsLocked B.name B.table B.board B.sizes B.seats B.whole opened }
     requires fresh { (opened.log.history ≡ []) × (opened.core.state ≡ no_files B.sizes B.name) }
     requires deeds { (deeds.table ≡ B.deeds) × (deeds.told ≡ B.told) × (deeds.blocks ≡ B.blocks) }
     requires count { length B.blocks ≡ B.sizes.blocks }

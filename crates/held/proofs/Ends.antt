@@ -30,7 +30,7 @@ use Rattle.machine.proofs.steps.Ends.{end_loud, of_end}
 use Rattle.errboard.specs.Shown.{RecorderSeen, ReceiptSeen}
 use Rattle.trail.specs.declared.entry.Entry.{Entry}
 use Rattle.trail.specs.Entries.{entry_of, entry_with, noted, reply_with, end_with, outcome_with}
-use Rattle.trail.specs.Room.{byte_need, event_need, fits_beside, has_room, less, need_of_end, reserved}
+use Rattle.trail.specs.Room.{Room, byte_need, event_need, fits_beside, has_room, less, need_of_end, reserved}
 use Rattle.held.specs.declared.log.Slip.{Slip}
 use Rattle.held.specs.Ends.{IsRecorded, ended_as, is_failed}
 use Rattle.held.specs.Entered.{Entered, Made, Records}
@@ -202,8 +202,8 @@ flush_event e (Ok (ended.Done b)) fit i =
     event.End Flush (record e { outcome = written_bare e.outcome (fit (ended.Done b) refl) i })
 flush_event e (Err x) fit i = event.End Flush (record e { outcome = twice e.outcome i })
 
-module _ (name : ℕ) (table board : TableId) (sizes : Sizes) (seats : ℕ) (old new : HeldSeen) (before after : SeatSeen)
-    (slip : Slip) (i : Whole name table board sizes seats old) where
+module _ (name : ℕ) (table board : TableId) (sizes : Sizes) (seats : ℕ) (whole : Room) (old new : HeldSeen) (before after : SeatSeen)
+    (slip : Slip) (i : Whole name table board sizes seats whole old) where
   pub flush_end_went : (e without : End) (a : Result Ended RefusedEnd) (r : Reply)
       → has_room old.log.room (reserved old.core.state) old.core.state (event.End Flush e) ≡ true → without ≡ end_with e []
       → Step old.core.state (event.End Flush e) (flush_ended a) new.core.state
@@ -211,7 +211,7 @@ module _ (name : ℕ) (table board : TableId) (sizes : Sizes) (seats : ℕ) (old
       → Entered (entry_with (record { seat = before.number; event = event.End Flush without; reply = r }) []) old.log new.log
       before after slip → new.log.room ≡ less old.log.room 0
       → Records old.core.state (event.End Flush e) (flush_ended a) old.errors new.errors
-      → Made (event.End Flush e) (flush_ended a) old new before after slip × Whole name table board sizes seats new
+      → Made (event.End Flush e) (flush_ended a) old new before after slip × Whole name table board sizes seats whole new
   flush_end_went e without a r has none s lists is entered room errors =
       let entry : Entry = record { seat = before.number; event = event.End Flush without; reply = r } in
       let same : entry_with entry [] ≡ entry_of before.number (event.End Flush e) (flush_ended a) = (λ j. record {
@@ -220,7 +220,7 @@ module _ (name : ℕ) (table board : TableId) (sizes : Sizes) (seats : ℕ) (old
             ∙ flush_event e a (taken old.core.state Flush e a new.core.state s)) j;
         reply = (ap (λ x. reply_with x []) is ∙ bare_reply a) j;
       }) in
-      went name table board sizes seats old new before after slip i (event.End Flush e) (flush_ended a) _ 0 has
+      went name table board sizes seats whole old new before after slip i (event.End Flush e) (flush_ended a) _ 0 has
       (none_needed _) same (none_in entry _ same) s lists entered room errors
 
 -- ---- what is recorded

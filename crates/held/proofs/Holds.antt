@@ -1,5 +1,5 @@
 -- One event more: what holds of a cache with its history goes on.
-use Rattle.std.proofs.Common.{◌≡◌, ℕ, ◌≤◌, Bool, true, false, [], ◌∷◌, ◌++◌, map, refl, ap, sym, subst, ◌∙◌, arith}
+use Rattle.std.proofs.Common.{◌≡◌, ℕ, ◌≤◌, Bool, true, false, List, [], ◌∷◌, ◌++◌, map, refl, ap, sym, subst, ◌∙◌, arith}
 use Rattle.std.proofs.Common.{inl, inr}
 use Rattle.std.specs.Prelude.{◌⊎◌, IfErr, IfOk, Result, Ok, Err, None, Some}
 use Rattle.atomic_table.specs.Seated.{TableId}
@@ -21,17 +21,19 @@ use Rattle.pc_types.specs.declared.refusal.Refusal.TheVariants.{TrailFull}
 use Rattle.trail.specs.declared.entry.Entry.{Entry}
 use Rattle.trail.specs.Entries.{bytes_in, entry_of, entry_with, event_with, noted, reply_with}
 use Rattle.trail.specs.History.{After, seatless}
-use Rattle.trail.specs.Room.{byte_need, entry_room, event_need, fits, fits_beside, has_room, less, keeps_room, reserved}
+use Rattle.trail.specs.Room.{Room, byte_need, entry_room, event_need, fits, fits_beside, has_room, less, keeps_room, reserved}
 use Rattle.trail.proofs.HistoryLaws.{after_step}
 use Rattle.trail.proofs.RoomLaws.{reserved_has_room, room_kept}
 use Rattle.held.specs.declared.denied.Denied.{Denied}
 use Rattle.held.specs.declared.log.Slip.{Slip}
+use Rattle.held.specs.Called.{Only}
 use Rattle.held.specs.Denials.{DeniedBy, IsDenied}
 use Rattle.held.specs.Entered.{Entered, Made, Records, has_room_for}
-use Rattle.held.specs.Keeps.{IsLocked}
+use Rattle.held.specs.Keeps.{IsLocked, room_after}
 use Rattle.held.specs.Kept.{IsHeld}
 use Rattle.held.specs.Shown.{HeldSeen, LogSeen, SeatSeen}
 use Rattle.held.proofs.Failures.{told_on}
+use Rattle.held.proofs.Seats.{shown_as}
 use Rattle.held.proofs.Sizes.{none_in}
 
 -- ---- the room that the code asks for is that of the rule
@@ -69,11 +71,16 @@ records_board s (event.End Flush end) (reply.Failed code) old new h = h.3.0
 records_board s e r old new h = ap (λ (x : RecorderSeen). x.board) h
 
 -- all that holds under the lock
-abbrev pub Whole : ℕ → TableId → TableId → Sizes → ℕ → HeldSeen → Type 0
-Whole name table board sizes seats h = IsHeld h.log h.core.state × IsLocked name table board sizes seats h
+abbrev pub Whole : ℕ → TableId → TableId → Sizes → ℕ → Room → HeldSeen → Type 0
+Whole name table board sizes seats whole h = IsHeld h.log h.core.state × IsLocked name table board sizes seats whole h
 
-module _ (name : ℕ) (table board : TableId) (sizes : Sizes) (seats : ℕ) (old new : HeldSeen) (before after : SeatSeen)
-    (slip : Slip) (i : Whole name table board sizes seats old) where
+-- the room that is left after one entry more
+room_push : (whole : Room) (es : List Entry) (e : Entry) → room_after whole (es ++ e ∷ []) ≡ less (room_after whole es) (bytes_in e)
+room_push whole [] e = refl
+room_push whole (x ∷ es) e = room_push (less whole (bytes_in x)) es e
+
+module _ (name : ℕ) (table board : TableId) (sizes : Sizes) (seats : ℕ) (whole : Room) (old new : HeldSeen) (before after : SeatSeen)
+    (slip : Slip) (i : Whole name table board sizes seats whole old) where
   -- an event for which there was room, with c bytes in its entry
   pub went : (e : Event) (r : Reply) (entry : Entry) (c : ℕ)
       → has_room old.log.room (reserved old.core.state) old.core.state e ≡ true → c ≤ entry_room old.core.state e
@@ -81,7 +88,7 @@ module _ (name : ℕ) (table board : TableId) (sizes : Sizes) (seats : ℕ) (old
       → Step old.core.state e r new.core.state → new.core.lists ≡ lists_after old.core.state e r old.core.lists
       → Entered entry old.log new.log before after slip → new.log.room ≡ less old.log.room c
       → Records old.core.state e r old.errors new.errors
-      → Made e r old new before after slip × Whole name table board sizes seats new
+      → Made e r old new before after slip × Whole name table board sizes seats whole new
   went e r entry c has le is count s lists h room errors =
       let same = steady old.core.state e r new.core.state s in
       let history : new.log.history ≡ old.log.history ++ entry_of before.number e r ∷ [] =
@@ -111,6 +118,8 @@ module _ (name : ℕ) (table board : TableId) (sizes : Sizes) (seats : ℕ) (old
             sized = same.sizes ∙ i.1.sized;
             counted = h.same.2 ∙ i.1.counted;
             told = told_on old.core.state new.core.state e r old.errors new.errors sound s errors i.1.told;
+            room = room ∙ (λ j. less (i.1.room j) (count j))
+                ∙ sym (room_push whole old.log.history (entry_of before.number e r)) ∙ ap (room_after whole) (sym history);
           },
         ),
       )
@@ -121,7 +130,7 @@ module _ (name : ℕ) (table board : TableId) (sizes : Sizes) (seats : ℕ) (old
       → Step old.core.state e a new.core.state → new.core.lists ≡ lists_after old.core.state e a old.core.lists → r ≡ a
       → Entered (entry_with (record { seat = before.number; event = e; reply = r }) []) old.log new.log before after slip
       → new.log.room ≡ less old.log.room 0 → Records old.core.state e a old.errors new.errors
-      → Made e a old new before after slip × Whole name table board sizes seats new
+      → Made e a old new before after slip × Whole name table board sizes seats whole new
   bare e a r is_event is_reply has s lists is entered room errors =
       let same : entry_with (record { seat = before.number; event = e; reply = r }) [] ≡ entry_of before.number e a =
       (λ j. record {
@@ -147,27 +156,34 @@ module _ {A : Type 0} (e : Event) (as_reply : Result A Refusal → Reply) (old n
       (subst (λ x. Made e (as_reply answer) x new before after slip) same made))
 
   -- a refusal that was told
-  pub told_denied : (result : Result (A × Slip) Denied) → IfErr result (λ d. (answer ≡ Err d.refusal) × (d.slip ≡ Some slip))
+  pub told_denied : (sizes : Sizes) (name : ℕ) (whole : Room) (result : Result (A × Slip) Denied)
+      → IfErr result (λ d. (answer ≡ Err d.refusal) × (d.slip ≡ Some slip))
       → ((why : Refusal) → as_reply (Err why) ≡ reply.Refused why) → Made e (as_reply answer) old new before after slip
-      → IfErr result (IsDenied e now new before after)
-  told_denied (Ok r) told refused made = tt
-  told_denied (Err d) told refused made = denied_by d told.1 (subst (λ x. Made e x now new before after slip)
+      → IfErr result (IsDenied sizes name whole e now new before after)
+  told_denied sizes name whole (Ok r) told refused made = tt
+  told_denied sizes name whole (Err d) told refused made = denied_by d told.1 (subst (λ x. Made e x now new before after slip)
       (ap as_reply told.0 ∙ refused d.refusal) (subst (λ x. Made e (as_reply answer) x new before after slip) same made))
     where
       denied_by : (d : Denied) → d.slip ≡ Some slip → Made e (reply.Refused d.refusal) now new before after slip
-          → IsDenied e now new before after d
-      denied_by d is m = subst (λ o. DeniedBy e now new before after d.refusal o) (sym is) m
+          → IsDenied sizes name whole e now new before after d
+      denied_by d is m = subst (λ o. DeniedBy sizes name whole e now new before after d.refusal o) (sym is) m
 
 -- no room: nothing was done
-pub full_denied : (e : Event) (old now : HeldSeen) (seat : SeatSeen) (d : Denied) → old ≡ now
-    → d ≡ record { refusal = TrailFull; slip = None } → has_room_for old e ≡ false → IsDenied e now now seat seat d
-full_denied e old now seat d same is full =
-    subst (λ (x : Denied). IsDenied e now now seat seat x) (sym is)
-    (refl, subst (λ x. has_room_for x e ≡ false) same full, (refl, refl))
-
--- no room for the entry of a refusal, which left the core
-pub full_back : (e : Event) (old new now : HeldSeen) (seat : SeatSeen) (d : Denied) → old ≡ now → new ≡ old
-    → d ≡ record { refusal = TrailFull; slip = None } → has_room_for old e ≡ false → IsDenied e now new seat seat d
-full_back e old new now seat d same back is full =
-    subst (λ (x : Denied). IsDenied e now new seat seat x) (sym is)
-    (refl, subst (λ x. has_room_for x e ≡ false) same full, (back ∙ same, refl))
+pub full_denied : (name : ℕ) (table board : TableId) (sizes : Sizes) (seats : ℕ) (whole : Room) (e : Event) (old now new : HeldSeen)
+    (before after : SeatSeen) (d : Denied) → Whole name table board sizes seats whole old → old ≡ now → new ≡ old
+    → d ≡ record { refusal = TrailFull; slip = None } → after ≡ record before { list = old.log.history }
+    → Only (λ _. ⊥) before after → has_room_for old e ≡ false → IsDenied sizes name whole e now new before after d
+full_denied name table board sizes seats whole e old now new before after d i same back is shown only full =
+    subst (λ (x : Denied). IsDenied sizes name whole e now new before after x) (sym is)
+    (subst (λ x. DeniedBy sizes name whole e x new before after TrailFull None) same (
+      refl,
+      record {
+        same = back;
+        shown = shown_as before after old.log.history shown only;
+        sees = ap (λ (s : SeatSeen). s.list) shown;
+        leaves = subst (λ (n : ℕ). After sizes n old.log.history old.core.state) (sym i.0.name ∙ i.1.named)
+            (subst (λ (x : Sizes). After x old.core.state.name old.log.history old.core.state) i.1.sized i.0.history);
+        left = i.1.room;
+        full = full;
+      },
+    ))

@@ -13,7 +13,7 @@ use Rattle.held.specs.declared.log.Slip.{Slip}
 use Rattle.held.specs.Entered.{Made}
 use Rattle.held.specs.Shown.{HeldSeen, SeatSeen}
 use Rattle.held.specs.Views.{count_of}
-use Rattle.held.specs.Called.{Goes, Once, Only}
+use Rattle.held.specs.Called.{Goes, IsShown, Once, Only}
 
 pub goes_by : (e : Event) (r : Reply) (old new : HeldSeen) (before after : SeatSeen) (slip : Slip)
     → Made e r old new before after slip → Goes before after
@@ -104,6 +104,17 @@ goes_shown before after history is p = record {
   count = let c = ap (λ (s : SeatSeen). s.count) is in omega (arith, c);
 }
 
+-- one that is shown a history, and no more
+pub shown_as : (before after : SeatSeen) (history : List Entry) → after ≡ record before { list = history }
+    → Only (λ _. ⊥) before after → IsShown before after
+shown_as before after history is p = record {
+  same = is ∙ ap (λ l. record before { list = l }) (sym (ap (λ (s : SeatSeen). s.list) is));
+  only = p;
+}
+
+pub goes_seen : (before after : SeatSeen) → IsShown before after → Goes before after
+goes_seen before after p = goes_shown before after after.list p.same p.only
+
 -- whatever its own entries are asked to be
 pub only_any : (own : Entry → Type 0) (before after : SeatSeen) → Only (λ _. ⊥) before after → Only own before after
 only_any own before after p = record {
@@ -123,6 +134,9 @@ only_same own before after e = subst (Only own before) (sym e) (record {
   made = All-nil (λ (x : Entry). x.seat ≡ before.number → own x);
   count = omega arith;
 })
+
+pub shown_same : (before after : SeatSeen) → after ≡ before → IsShown before after
+shown_same before after e = subst (IsShown before) (sym e) (record { same = refl; only = only_same (λ _. ⊥) before before refl })
 
 pub only_on : (own : Entry → Type 0) (a b c : SeatSeen) → Only own a b → Only own b c → Only own a c
 only_on own a b c p q =

@@ -16,7 +16,7 @@ use Rattle.machine.specs.Step.{Step}
 use Rattle.held.specs.declared.log.Slip.{Slip}
 use Rattle.held.specs.Entered.{Entered, Made}
 use Rattle.trail.specs.Entries.{entry_of, entry_with, reply_bytes, reply_with}
-use Rattle.trail.specs.Room.{fits_beside, less, reserved}
+use Rattle.trail.specs.Room.{Room, fits_beside, less, reserved}
 use Rattle.held.specs.Shown.{HeldSeen, SeatSeen}
 use Rattle.held.proofs.Holds.{Whole, went}
 use Rattle.held.proofs.Sizes.{append_in, read_in, write_in}
@@ -50,17 +50,17 @@ take_le k xs n h = grind (arith, length-take)
 self_le : (n : ℕ) → n ≤ n
 self_le n = omega arith
 
-module _ (name : ℕ) (table board : TableId) (sizes : Sizes) (seats : ℕ) (old new : HeldSeen) (before after : SeatSeen)
-    (slip : Slip) (i : Whole name table board sizes seats old) where
+module _ (name : ℕ) (table board : TableId) (sizes : Sizes) (seats : ℕ) (whole : Room) (old new : HeldSeen) (before after : SeatSeen)
+    (slip : Slip) (i : Whole name table board sizes seats whole old) where
   pub write_went : (h : HandleId) (o : ℕ) (none b : List ℕ) (a : Result WriteAnswer Refusal) (r : Reply)
       → fits_beside old.log.room old.core.state.sizes.page (reserved old.core.state) 1 (length b) ≡ true
       → Step old.core.state (event.Write h o b) (wrote a) new.core.state
       → new.core.lists ≡ lists_after old.core.state (event.Write h o b) (wrote a) old.core.lists → r ≡ wrote a
       → Entered (entry_with (record { seat = before.number; event = event.Write h o none; reply = r }) b) old.log new.log
       before after slip → new.log.room ≡ less old.log.room (length b) → new.errors ≡ old.errors
-      → Made (event.Write h o b) (wrote a) old new before after slip × Whole name table board sizes seats new
+      → Made (event.Write h o b) (wrote a) old new before after slip × Whole name table board sizes seats whole new
   write_went h o none b a r fits s lists is entered room errors =
-      went name table board sizes seats old new before after slip i (event.Write h o b) (wrote a) _ (length b) fits
+      went name table board sizes seats whole old new before after slip i (event.Write h o b) (wrote a) _ (length b) fits
       (self_le (length b)) (write_entry before.number h o none b a r is) (write_in before.number h o b a) s lists entered
       room errors
 
@@ -70,9 +70,9 @@ module _ (name : ℕ) (table board : TableId) (sizes : Sizes) (seats : ℕ) (old
       → new.core.lists ≡ lists_after old.core.state (event.Append h b) (wrote a) old.core.lists → r ≡ wrote a
       → Entered (entry_with (record { seat = before.number; event = event.Append h none; reply = r }) b) old.log new.log
       before after slip → new.log.room ≡ less old.log.room (length b) → new.errors ≡ old.errors
-      → Made (event.Append h b) (wrote a) old new before after slip × Whole name table board sizes seats new
+      → Made (event.Append h b) (wrote a) old new before after slip × Whole name table board sizes seats whole new
   append_went h none b a r fits s lists is entered room errors =
-      went name table board sizes seats old new before after slip i (event.Append h b) (wrote a) _ (length b) fits
+      went name table board sizes seats whole old new before after slip i (event.Append h b) (wrote a) _ (length b) fits
       (self_le (length b)) (append_entry before.number h none b a r is) (append_in before.number h b a) s lists entered
       room errors
 
@@ -83,7 +83,7 @@ module _ (name : ℕ) (table board : TableId) (sizes : Sizes) (seats : ℕ) (old
       → bytes ≡ reply_bytes is
       → Entered (entry_with (record { seat = before.number; event = event.Read h o n; reply = r }) bytes) old.log new.log
       before after slip → new.log.room ≡ less old.log.room (length bytes) → new.errors ≡ old.errors
-      → Made (event.Read h o n) is old new before after slip × Whole name table board sizes seats new
+      → Made (event.Read h o n) is old new before after slip × Whole name table board sizes seats whole new
   read_went h o n bytes r is fits le s lists e got entered room errors =
-      went name table board sizes seats old new before after slip i (event.Read h o n) is _ (length bytes) fits le
+      went name table board sizes seats whole old new before after slip i (event.Read h o n) is _ (length bytes) fits le
       (read_entry before.number h o n bytes r is e) (read_in before.number h o n bytes is got) s lists entered room errors

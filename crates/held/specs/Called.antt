@@ -25,3 +25,8 @@ pub record Once (tries : Entry → Type 0) (before after : SeatSeen) : Type 0 wh
   pub tried : Only tries before at
   pub last : Only (λ _. Unit {0}) at after
   pub one : after.count ≡ at.count + 1
+
+-- it has seen more or as much, and made nothing
+pub record IsShown (before after : SeatSeen) : Type 0 where
+  pub same : after ≡ record before { list = after.list }
+  pub only : Only (λ _. ⊥) before after

@@ -65,7 +65,3 @@ pub record Made (event : Event) (reply : Reply) (old new : HeldSeen) (before aft
   pub entered : Entered (entry_of before.number event reply) old.log new.log before after slip
   pub room : new.log.room ≡ less old.log.room (bytes_in (entry_of before.number event reply))
   pub recorded : Records old.core.state event reply old.errors new.errors
-
--- nothing was done
-abbrev pub Untouched : HeldSeen → HeldSeen → SeatSeen → SeatSeen → Type 0
-Untouched old new before after = (new ≡ old) × (after ≡ before)

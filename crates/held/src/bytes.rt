@@ -28,7 +28,7 @@ impl<B: Naming, T: Trail> Held<B, T> {
     ) -> Result<(ReadAnswer, Slip), Denied>
         requires { seat.old.table ≡ B.table }
         ensures made { IfOk result (λ r. Made (event.Read handle offset (length out.old)) (was_read (Ok r.0) out.new) self.old self.new seat.old seat.new r.1) }
-        ensures denied { IfErr result (IsDenied (event.Read handle offset (length out.old)) self.old self.new seat.old seat.new) }
+        ensures denied { IfErr result (IsDenied B.sizes B.name B.whole (event.Read handle offset (length out.old)) self.old self.new seat.old seat.new) }
         ensures count { IfOk result (λ r. bytes_read (Ok r.0) ≤ length out.old) }
         ensures rest { IfOk result (λ r. drop (bytes_read (Ok r.0)) out.new ≡ drop (bytes_read (Ok r.0)) out.old) }
         ensures kept { IfErr result (λ _. out.new ≡ out.old) }
@@ -40,7 +40,9 @@ impl<B: Naming, T: Trail> Held<B, T> {
             ..
         } = self;
         let asked = out.len() as u64;
-        log.check_room(core, 1, asked)?;
+        if !log.has_room(core, 1, asked) {
+            return Err(log.full(seat));
+        }
         let answer = core.read(handle, offset, out);
         let event = Event::Read(handle, offset, asked);
         let (reply, count) = of_read(&answer, *alloc);
@@ -58,7 +60,7 @@ impl<B: Naming, T: Trail> Held<B, T> {
     ) -> Result<(WriteAnswer, Slip), Denied>
         requires { seat.old.table ≡ B.table }
         ensures made { IfOk result (λ r. Made (event.Write handle offset bytes.now) (wrote (Ok r.0)) self.old self.new seat.old seat.new r.1) }
-        ensures denied { IfErr result (IsDenied (event.Write handle offset bytes.now) self.old self.new seat.old seat.new) }
+        ensures denied { IfErr result (IsDenied B.sizes B.name B.whole (event.Write handle offset bytes.now) self.old self.new seat.old seat.new) }
     {
         let Held {
             core,
@@ -66,7 +68,9 @@ impl<B: Naming, T: Trail> Held<B, T> {
             alloc,
             ..
         } = self;
-        log.check_room(core, 1, bytes.len() as u64)?;
+        if !log.has_room(core, 1, bytes.len() as u64) {
+            return Err(log.full(seat));
+        }
         let answer = core.write(handle, offset, bytes);
         let event = Event::Write(handle, offset, no_bytes(*alloc));
         let slip = log.enter(seat, event, of_write(&answer), bytes);
@@ -82,7 +86,7 @@ impl<B: Naming, T: Trail> Held<B, T> {
     ) -> Result<(WriteAnswer, Slip), Denied>
         requires { seat.old.table ≡ B.table }
         ensures made { IfOk result (λ r. Made (event.Append handle bytes.now) (wrote (Ok r.0)) self.old self.new seat.old seat.new r.1) }
-        ensures denied { IfErr result (IsDenied (event.Append handle bytes.now) self.old self.new seat.old seat.new) }
+        ensures denied { IfErr result (IsDenied B.sizes B.name B.whole (event.Append handle bytes.now) self.old self.new seat.old seat.new) }
     {
         let Held {
             core,
@@ -90,7 +94,9 @@ impl<B: Naming, T: Trail> Held<B, T> {
             alloc,
             ..
         } = self;
-        log.check_room(core, 1, bytes.len() as u64)?;
+        if !log.has_room(core, 1, bytes.len() as u64) {
+            return Err(log.full(seat));
+        }
         let answer = core.append(handle, bytes);
         let event = Event::Append(handle, no_bytes(*alloc));
         let slip = log.enter(seat, event, of_write(&answer), bytes);

@@ -1,7 +1,7 @@
 //! How a call is refused.
 
-ghost use Rattle.std.specs.Prelude.{◌≡◌, Err, IfErr, IfOk, None, Ok, OnOk, Some, false, true};
-ghost use Rattle.pc_types.specs.declared.refusal.Refusal.TheVariants.{TrailFull};
+ghost use Rattle.std.specs.Bool.{OnFalse, OnTrue};
+ghost use Rattle.std.specs.Prelude.{◌≡◌, Err, IfErr, IfOk, None, Ok, Some, false, true};
 
 use crate::log::Slip;
 use pc_types::Refusal;
@@ -33,15 +33,12 @@ pub fn by(refusal: Refusal, slip: Slip) -> Denied
     }
 }
 
-/// A drop that is refused wants an entry of its own. Refused by `TrailFull` where there is no room for it (decision 122).
-pub(crate) fn check_entry(is_refused: bool, is_room: bool) -> Result<(), Denied>
-    ensures room { OnOk result (is_refused ≡ true → is_room ≡ true) }
-    ensures full { IfErr result (λ d. (d ≡ record { refusal = TrailFull; slip = None }) × (is_refused ≡ true) × (is_room ≡ false)) }
+/// Whether the entry of a drop has no room: one that is refused wants an entry of its own (decision 122).
+pub(crate) fn lacks_entry(is_refused: bool, is_room: bool) -> bool
+    ensures yes { OnTrue result ((is_refused ≡ true) × (is_room ≡ false)) }
+    ensures no { OnFalse result (is_refused ≡ true → is_room ≡ true) }
 {
-    if is_refused && !is_room {
-        return Err(without_slip(Refusal::TrailFull));
-    }
-    Ok(())
+    is_refused && !is_room
 }
 
 /// The answer of an event that was entered at the slip, or its refusal, of which this entry tells.

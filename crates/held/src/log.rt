@@ -135,21 +135,16 @@ impl<T: Trail> Log<T> {
         self.trail.has_room(page, &reserved, entries, bytes)
     }
 
-    /// Refuses an event by `TrailFull` where there is no such room.
-    pub(crate) fn check_room(
-        &self,
-        core: &CacheCore,
-        entries: u64,
-        bytes: u64,
-    ) -> Result<(), Denied>
-        ensures room { OnOk result (fits_beside self.now.room core.now.state.sizes.page (reserved core.now.state) entries bytes ≡ true) }
-        ensures full { IfErr result (λ d. (d ≡ record { refusal = TrailFull; slip = None }) × (fits_beside self.now.room core.now.state.sizes.page (reserved core.now.state) entries bytes ≡ false)) }
+    /// The refusal of an event for which there is no room. The seat is shown the history that leaves none.
+    pub(crate) fn full(&mut self, seat: &mut Seat) -> Denied
+        requires { seat.old.table ≡ self.old.table }
+        ensures denied { result ≡ record { refusal = TrailFull; slip = None } }
+        ensures same { self.new ≡ self.old }
+        ensures seen { seat.new ≡ record seat.old { list = self.old.history } }
+        ensures only { Only (λ _. ⊥) seat.old seat.new }
     {
-        if self.has_room(core, entries, bytes) {
-            Ok(())
-        } else {
-            Err(without_slip(Refusal::TrailFull))
-        }
+        self.show(seat);
+        without_slip(Refusal::TrailFull)
     }
 
     /// The history of the cache of this name, without entries, its seats, numbered from 0, and one more. All memory is taken before

@@ -3,12 +3,13 @@
 use deeds::naming::NamesDeeds;
 use std::marker::Brand;
 
-/// Names a cache: its name, the tables behind its seats and its error board, its sizes, how many seats it has, and the blocks that its
-/// device has at first, where the device tells them. Its deeds are named too. A program picks it once.
+/// Names a cache: its name, the tables behind its seats and its error board, its sizes, how many seats it has, how much room its trail
+/// has at first, and the blocks that its device has then, where the device tells them. Its deeds are named too. A program picks it once.
 pub trait Naming: NamesDeeds {
     ghost use Rattle.std.specs.Prelude.{ℕ, List};
     ghost use Rattle.atomic_table.specs.Seated.{TableId};
     ghost use Rattle.pc_types.specs.Limits.{Sizes};
+    ghost use Rattle.trail.specs.Room.{Room};
 
     ghost name: { ℕ };
 
@@ -20,12 +21,14 @@ pub trait Naming: NamesDeeds {
 
     ghost seats: { ℕ };
 
+    ghost whole: { Room };
+
     ghost blocks: { List (List ℕ) };
 }
 
 impl Naming for Brand {
     ghost use Rattle.std.specs.Prelude.{[]};
-    ghost use Rattle.held.specs.Names.{no_table, no_sizes};
+    ghost use Rattle.held.specs.Names.{no_room, no_table, no_sizes};
 
     ghost name = { 0 };
 
@@ -36,6 +39,8 @@ impl Naming for Brand {
     ghost sizes = { no_sizes };
 
     ghost seats = { 0 };
+
+    ghost whole = { no_room };
 
     ghost blocks = { [] };
 }

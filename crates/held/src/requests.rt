@@ -40,7 +40,7 @@ impl<B: Naming, T: Trail> Held<B, T> {
         ensures job { IfOk result (λ r. IsFillJob self.new.core.state (Ok (as_fill r.0))) }
         ensures fits { IfOk result (λ r. OnFillJob (Ok (as_fill r.0)) (IsJobFor B.name B.sizes.blocks B.sizes.page)) }
         ensures back { IfOk result (λ r. GivesBack buffer (Ok (as_fill r.0))) }
-        ensures denied { IfErr result (IsDenied (event.FillBegin handle page) self.old self.new seat.old seat.new) }
+        ensures denied { IfErr result (IsDenied B.sizes B.name B.whole (event.FillBegin handle page) self.old self.new seat.old seat.new) }
     {
         let Held {
             core,
@@ -49,7 +49,9 @@ impl<B: Naming, T: Trail> Held<B, T> {
             ..
         } = self;
         // The end of a fill may have the bytes of a page.
-        log.check_room(core, 2, core.geometry().page())?;
+        if !log.has_room(core, 2, core.geometry().page()) {
+            return Err(log.full(seat));
+        }
         let answer = core.fill_begin(handle, page, buffer);
         let event = Event::FillBegin(handle, page);
         let slip = log.enter(seat, event, of_fill_begin(&answer), &[]);
@@ -72,7 +74,7 @@ impl<B: Naming, T: Trail> Held<B, T> {
         ensures job { IfOk result (λ r. IsFlushJob self.new.core.state (Ok (as_flush r.0))) }
         ensures fits { IfOk result (λ r. OnFlushJob (Ok (as_flush r.0)) (IsJobFor B.name B.sizes.blocks B.sizes.page)) }
         ensures back { IfOk result (λ r. FlushGivesBack buffer (Ok (as_flush r.0))) }
-        ensures denied { IfErr result (IsDenied (event.FlushBegin file) self.old self.new seat.old seat.new) }
+        ensures denied { IfErr result (IsDenied B.sizes B.name B.whole (event.FlushBegin file) self.old self.new seat.old seat.new) }
     {
         let Held {
             core,
@@ -80,7 +82,9 @@ impl<B: Naming, T: Trail> Held<B, T> {
             desk,
             ..
         } = self;
-        log.check_room(core, 2, 0)?;
+        if !log.has_room(core, 2, 0) {
+            return Err(log.full(seat));
+        }
         let answer = core.flush_begin(file, buffer);
         let slip = log.enter(seat, Event::FlushBegin(file), of_flush_begin(&answer), &[]);
         match flush_started(desk, answer) {

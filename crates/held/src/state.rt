@@ -16,7 +16,7 @@ ghost use Rattle.trail.specs.Honest.{world_over};
 ghost use Rattle.trail.specs.History.{After};
 ghost use Rattle.trail.specs.Room.{keeps_room, reserved};
 ghost use Rattle.held.specs.Called.{Only};
-ghost use Rattle.held.specs.Keeps.{IsLocked};
+ghost use Rattle.held.specs.Keeps.{IsLocked, room_after};
 ghost use Rattle.held.specs.Shown.{AreFresh, IsFresh};
 ghost use Rattle.held.specs.Views.{count_of};
 ghost use Rattle.pc_types.specs.declared.refusal.Refusal.TheVariants.{BadConfig, Memory, NoSuchFile, Stranger};
@@ -126,14 +126,14 @@ impl<B: Naming, T: Trail> Model for Held<B, T> {
     ghost view = { λ h. record { log = h.log; core = h.core; errors = h.recorder } };
 
     ghost invariant = { λ h.
-        (IsHeld h.log h.core.state × IsLocked B.name B.table B.board B.sizes B.seats (record { log = h.log; core = h.core; errors = h.recorder }))
+        (IsHeld h.log h.core.state × IsLocked B.name B.table B.board B.sizes B.seats B.whole (record { log = h.log; core = h.core; errors = h.recorder }))
         × IsTied B.told B.sizes B.name B.blocks h.log.history h.core.state h.desk };
 }
 
 impl<B: Naming, T: Trail> Held<B, T> {
     /// The cache under its name, with the desk of its device's deeds. It has no files yet, and all deeds are at home.
     pub fn of(opened: Opened<T>, desk: Desk<B>) -> Held<B, T>
-        requires locked { IsLocked B.name B.table B.board B.sizes B.seats opened }
+        requires locked { IsLocked B.name B.table B.board B.sizes B.seats B.whole opened }
         requires fresh { (opened.log.history ≡ []) × (opened.core.state ≡ no_files B.sizes B.name) }
         requires desk { desk ≡ map Home B.blocks }
         requires count { length B.blocks ≡ B.sizes.blocks }
@@ -166,6 +166,9 @@ impl<B: Naming, T: Trail> Held<B, T> {
 
         // The trail has room for the end of all that is in flight.
         ensures room { keeps_room self.now.log.room self.now.core.state.sizes.page (reserved self.now.core.state) ≡ true }
+
+        // What the history leaves of the room that the trail had at first.
+        ensures left { self.now.log.room ≡ room_after B.whole self.now.log.history }
     {
         &self.core
     }

@@ -10,7 +10,7 @@ ghost use Rattle.held.specs.Denials.{IsDenied};
 ghost use Rattle.held.specs.Entered.{Made};
 ghost use Rattle.held.specs.Started.{as_sync};
 
-use crate::denied::{Denied, by, check_entry, told};
+use crate::denied::{Denied, by, lacks_entry, told};
 use crate::log::{Seat, Slip};
 use crate::naming::Naming;
 use crate::started::{SyncMoved, sync_moved};
@@ -32,10 +32,12 @@ impl<B: Naming, T: Trail> Held<B, T> {
     ) -> Result<(SyncId, Slip), Denied>
         requires { seat.old.table ≡ B.table }
         ensures made { IfOk result (λ r. Made (event.SyncBegin handle first last) (sync_begun (Ok r.0)) self.old self.new seat.old seat.new r.1) }
-        ensures denied { IfErr result (IsDenied (event.SyncBegin handle first last) self.old self.new seat.old seat.new) }
+        ensures denied { IfErr result (IsDenied B.sizes B.name B.whole (event.SyncBegin handle first last) self.old self.new seat.old seat.new) }
     {
         let Held { core, log, .. } = self;
-        log.check_room(core, 2, 0)?;
+        if !log.has_room(core, 2, 0) {
+            return Err(log.full(seat));
+        }
         let answer = core.sync_begin_range(handle, first, last);
         let event = Event::SyncBegin(handle, first, last);
         let slip = log.enter(seat, event, of_sync_begin(&answer), &[]);
@@ -56,7 +58,7 @@ impl<B: Naming, T: Trail> Held<B, T> {
         ensures fits { IfOk result (λ r. OnSyncJob (Ok (as_sync r.0)) (IsJobFor B.name B.sizes.blocks B.sizes.page)) }
         ensures back { IfOk result (λ r. SyncGivesBack buffer (Ok (as_sync r.0))) }
         ensures kept { IfErr result (λ e. e.1 ≡ buffer) }
-        ensures denied { IfErr result (λ e. IsDenied (event.SyncStep sync) self.old self.new seat.old seat.new e.0) }
+        ensures denied { IfErr result (λ e. IsDenied B.sizes B.name B.whole (event.SyncStep sync) self.old self.new seat.old seat.new e.0) }
     {
         let Held {
             core,
@@ -64,8 +66,8 @@ impl<B: Naming, T: Trail> Held<B, T> {
             desk,
             ..
         } = self;
-        if let Err(denied) = log.check_room(core, 2, 0) {
-            return Err((denied, buffer));
+        if !log.has_room(core, 2, 0) {
+            return Err((log.full(seat), buffer));
         }
         let answer = core.sync_step(sync, buffer);
         let slip = log.enter(seat, Event::SyncStep(sync), of_sync_step(&answer), &[]);
@@ -80,12 +82,14 @@ impl<B: Naming, T: Trail> Held<B, T> {
         requires { seat.old.table ≡ B.table }
         ensures made { IfOk result (λ slip. Made (event.SyncDrop sync) reply.Dropped self.old self.new seat.old seat.new slip) }
         ensures in_progress { tests self.old.core.state (event.SyncDrop sync) ≡ None → IsOk result }
-        ensures denied { IfErr result (IsDenied (event.SyncDrop sync) self.old self.new seat.old seat.new) }
+        ensures denied { IfErr result (IsDenied B.sizes B.name B.whole (event.SyncDrop sync) self.old self.new seat.old seat.new) }
     {
         let Held { core, log, .. } = self;
         let is_room = log.has_room(core, 1, 0);
         let answer = core.sync_drop(sync);
-        check_entry(answer.is_err(), is_room)?;
+        if lacks_entry(answer.is_err(), is_room) {
+            return Err(log.full(seat));
+        }
         let slip = log.enter(seat, Event::SyncDrop(sync), of_sync_drop(&answer), &[]);
         let ((), slip) = told(answer, slip)?;
         Ok(slip)

@@ -9,13 +9,14 @@ use Rattle.machine.specs.declared.event.Reply.{Reply}
 use Rattle.machine.specs.declared.event.Reply.TheVariants as reply
 use Rattle.pc_types.specs.Limits.{Sizes}
 use Rattle.pc_types.specs.declared.refusal.Refusal.{Refusal}
+use Rattle.trail.specs.Room.{Room}
 use Rattle.held.specs.declared.log.Slip.{Slip}
 use Rattle.held.specs.Shown.{HeldSeen, SeatSeen}
 use Rattle.held.specs.Called.{Goes, Only}
 use Rattle.held.specs.Denials as under
 use Rattle.held.specs.Firsts.{IsFirstDenied, Writes}
 use Rattle.held.specs.declared.denied.Denied.{Denied}
-use Rattle.held.proofs.Seats.{only_by, only_on, only_same, only_wider}
+use Rattle.held.proofs.Seats.{only_any, only_by, only_on, only_same, only_wider}
 use Rattle.shared.specs.Denials.{MadeOne}
 use Rattle.shared.specs.Workers.{AllCarried, Ends, IsCarried, IsEndAt, IsEndOf, IsFlushed, OnBegun, pushed_by}
 use Rattle.shared.specs.declared.turns.Flushed.{Flushed}
@@ -60,16 +61,17 @@ begins_one job slip old new before after w =
     only_by (λ e. OnBegun (λ t. t ≡ job.serial) e.event e.reply) (event.FlushBegin w.file)
     (reply.Job (record { 0 = job.serial })) old new before after slip refl w.made
 
-pub begins_none : (old new : HeldSeen) (before after : SeatSeen) (d : Denied) → IsFirstDenied old new before after d
-    → Only (λ e. OnBegun (λ _. ⊥) e.event e.reply) before after
-begins_none old new before after d q = go d.refusal d.slip q.denied
-  where
-    go : (r : Refusal) (o : Option Slip) → under.DeniedBy (event.FlushBegin q.file) old new before after r o
-        → Only (λ e. OnBegun (λ _. ⊥) e.event e.reply) before after
-    go r None k = only_same (λ e. OnBegun (λ _. ⊥) e.event e.reply) before after k.2.1
-    go r (Some slip) k =
-        only_by (λ e. OnBegun (λ _. ⊥) e.event e.reply) (event.FlushBegin q.file) (reply.Refused r) old new before after
-        slip tt k
+module _ (sizes : Sizes) (name : ℕ) (whole : Room) where
+  pub begins_none : (old new : HeldSeen) (before after : SeatSeen) (d : Denied) → IsFirstDenied sizes name whole old new before after d
+      → Only (λ e. OnBegun (λ _. ⊥) e.event e.reply) before after
+  begins_none old new before after d q = go d.refusal d.slip q.denied
+    where
+      go : (r : Refusal) (o : Option Slip) → under.DeniedBy sizes name whole (event.FlushBegin q.file) old new before after r o
+          → Only (λ e. OnBegun (λ _. ⊥) e.event e.reply) before after
+      go r None k = only_any (λ e. OnBegun (λ _. ⊥) e.event e.reply) before after k.1.shown.only
+      go r (Some slip) k =
+          only_by (λ e. OnBegun (λ _. ⊥) e.event e.reply) (event.FlushBegin q.file) (reply.Refused r) old new before after
+          slip tt k
 
 -- ---- one turn
 

@@ -1,7 +1,7 @@
 -- What the ends of jobs and the turns of workers say of a seat.
 use Rattle.std.proofs.Common.{◌≡◌, ℕ, zero, suc, [], ◌∷◌, ◌++◌, ap, arith, refl, sym, subst, ◌∙◌}
-use Rattle.std.specs.Prelude.{All, Bool, false, true, IfErr, IfNone, IfOk, IfSome, Ok, Option, Result, Some, None, is_none, is_some, length}
-use Rattle.std.proofs.lemmas.List.{append_assoc, append-nil}
+use Rattle.std.specs.Prelude.{All, Bool, false, true, IfErr, IfNone, IfOk, IfSome, Ok, Option, Result, Some, None, is_none, is_some, length, option_map, take}
+use Rattle.std.proofs.lemmas.List.{append_assoc, append-nil, length_push, take-append-le, take_all}
 use Rattle.std.proofs.lemmas.List.Elements.{All-append, All-nil, All-weaker}
 use Rattle.std.proofs.lemmas.Result.{IfErr-weaker}
 use Rattle.atomic_table.specs.Seated.{TableId}
@@ -9,6 +9,7 @@ use Rattle.blockdev.specs.Jobs.{FinishedTask, Task}
 use Rattle.crossbeam_queue.specs.Fifo.{Held}
 use Rattle.crossbeam_queue.specs.Passes.{view}
 use Rattle.ring.specs.Order.{Stands}
+use Rattle.cachecore.specs.Flushing.{flush_of}
 use Rattle.cachecore.specs.Replies.{EndGivesBack, IsFlushJob, end_of, fill_ended, flush_ended}
 use Rattle.cachecore.specs.declared.answers.Ended.{Ended}
 use Rattle.cachecore.specs.declared.answers.Ended.TheVariants as ended
@@ -23,8 +24,10 @@ use Rattle.machine.specs.declared.event.Reply.TheVariants as reply
 use Rattle.pc_types.specs.declared.kind.Kind.{Kind}
 use Rattle.pc_types.specs.declared.kind.Kind.TheVariants.{Fill, Flush}
 use Rattle.pc_types.specs.Limits.{Sizes}
+use Rattle.trail.specs.declared.entry.Entry.{Entry}
 use Rattle.trail.specs.Entries.{entry_of}
 use Rattle.trail.specs.History.{After}
+use Rattle.trail.specs.Room.{Room}
 use Rattle.held.specs.Ends.{IsRecorded, IsRecordedOf, ended_as}
 use Rattle.held.specs.Entered.{Made}
 use Rattle.held.specs.declared.log.Slip.{Slip}
@@ -36,7 +39,8 @@ use Rattle.held.specs.declared.denied.Denied.{Denied}
 use Rattle.held.proofs.Seats.{goes_same}
 use Rattle.shared.specs.Called.{Makes}
 use Rattle.shared.specs.Denials.{IsDenied, MadeOne}
-use Rattle.shared.specs.Workers.{AllEnded, Begins, Ends, IsEndOf, IsEndReply, IsFlushBegin, IsOwnFailure, fails_write, popped_by}
+use Rattle.shared.specs.Seen.{FailedSeen}
+use Rattle.shared.specs.Workers.{AllEnded, Begins, Ends, IsEndOf, IsEndReply, IsFlushBegin, IsOfRequest, IsOwnFailure, fails_write, popped_by}
 use Rattle.shared.specs.declared.ends.Done.{Done}
 use Rattle.shared.specs.declared.worker.Worker.{Worker}
 use Rattle.cachecore.specs.Replies.{buffer_of}
@@ -44,12 +48,13 @@ use Rattle.shared.proofs.Making.{denied_by, denied_on, denied_one, makes_on, mak
 
 -- ---- one event
 
--- what is refused is one event or none
-pub event_once : {A : Type 0} (result : Result A Denied) (e : Event) (old new : HeldSeen) (before after : SeatSeen)
-    → IfErr result (under.IsDenied e old new before after) → IfErr result (λ d. MadeOne d.slip before after)
-event_once result e old new before after q =
-    IfErr-weaker result (under.IsDenied e old new before after) (λ d. MadeOne d.slip before after)
-    (λ d k. denied_one e old new before after d k) q
+module _ (sizes : Sizes) (name : ℕ) (whole : Room) where
+  -- what is refused is one event or none
+  pub event_once : {A : Type 0} (result : Result A Denied) (e : Event) (old new : HeldSeen) (before after : SeatSeen)
+      → IfErr result (under.IsDenied sizes name whole e old new before after) → IfErr result (λ d. MadeOne d.slip before after)
+  event_once result e old new before after q =
+      IfErr-weaker result (under.IsDenied sizes name whole e old new before after) (λ d. MadeOne d.slip before after)
+      (λ d k. denied_one sizes name whole e old new before after d k) q
 
 -- ---- ends
 
@@ -105,6 +110,69 @@ pub ends_told : (k : Kind) (old new : RecorderSeen) (f : Option ℕ) (a : Ended)
     → IsRecordedOf k old f a receipt new → is_some receipt ≡ fails_write k (ended_as k (Ok a))
 ends_told Fill old new f a receipt h = ap is_some h.0
 ends_told Flush old new f a receipt h = flush_told old new f a receipt h
+
+-- ---- whose receipt it is
+
+receipt_file : (old new : RecorderSeen) (f : Option ℕ) (a : Ended) (receipt : Option ReceiptSeen)
+    → IsRecorded old f (Ok a) receipt new → IfSome receipt (λ r. f ≡ Some r.file)
+receipt_file old new (Some f) (ended.Failed code b) (Some receipt) h = ap Some (sym h.3)
+receipt_file old new (Some f) (ended.Failed code b) None h = tt
+receipt_file old new None (ended.Failed code b) receipt h = absurd h
+receipt_file old new f (ended.Dropped b) None h = tt
+receipt_file old new (Some f) (ended.Dropped b) (Some receipt) h = absurd h
+receipt_file old new None (ended.Dropped b) (Some receipt) h = absurd h
+receipt_file old new f (ended.Done b) None h = tt
+receipt_file old new (Some f) (ended.Done b) (Some receipt) h = absurd h
+receipt_file old new None (ended.Done b) (Some receipt) h = absurd h
+
+ended_file : (k : Kind) (old new : RecorderSeen) (f : Option ℕ) (a : Ended) (receipt : Option ReceiptSeen)
+    → IsRecordedOf k old f a receipt new → IfSome receipt (λ r. f ≡ Some r.file)
+ended_file Fill old new f a receipt h = subst (λ o. IfSome o (λ (r : ReceiptSeen). f ≡ Some r.file)) (sym h.0) tt
+ended_file Flush old new f a receipt h = receipt_file old new f a receipt h
+
+-- the receipt of an end is of the file of the request that was in flight
+pub of_request : (sizes : Sizes) (name serial : ℕ) (k : Kind) (e : Event) (r : Reply) (a : Ended) (receipt : Option ReceiptSeen)
+    (old new : HeldSeen) (before after : SeatSeen) (slip : Slip) → After sizes name old.log.history old.core.state
+    → Made e r old new before after slip → IsRecordedOf k old.errors (flush_of old.core.state serial) a receipt new.errors
+    → IfSome receipt (IsOfRequest sizes name serial after slip)
+of_request sizes name serial k e r a receipt old new before after slip legal m h =
+    go receipt (ended_file k old.errors new.errors (flush_of old.core.state serial) a receipt h)
+  where
+    entry : Entry
+    entry = entry_of before.number e r
+
+    there : after.list ≡ old.log.history ++ entry ∷ []
+    there = m.entered.sees ∙ m.entered.history
+
+    until : take slip.place after.list ≡ old.log.history
+    until =
+        let at = m.entered.placed.1 in
+        ap (take slip.place) there ∙ take-append-le slip.place old.log.history (entry ∷ []) (omega (arith, at))
+        ∙ take_all slip.place old.log.history (omega (arith, at))
+
+    go : (o : Option ReceiptSeen) → IfSome o (λ x. flush_of old.core.state serial ≡ Some x.file)
+        → IfSome o (IsOfRequest sizes name serial after slip)
+    go None x = tt
+    go (Some receipt) x = record {
+      state = old.core.state;
+      seen = omega (arith, ap length there, length_push old.log.history entry, m.entered.placed.1);
+      leaves = subst (λ l. After sizes name l old.core.state) (sym until) legal;
+      file = x;
+    }
+
+-- so is the failed write that it comes with
+pub failed_of_request : (sizes : Sizes) (name called serial given : ℕ) (seat : SeatSeen) (slip : Slip) (receipt : Option ReceiptSeen)
+    (failed : Option FailedSeen) → failed ≡ option_map (λ r. record { cache = called; receipt = r }) receipt → given ≡ serial
+    → IfSome receipt (IsOfRequest sizes name serial seat slip)
+    → IfSome failed (λ w. IsOfRequest sizes name given seat slip w.receipt)
+failed_of_request sizes name called serial given seat slip receipt failed is same p =
+    subst (λ o. IfSome o (λ (w : FailedSeen). IsOfRequest sizes name given seat slip w.receipt)) (sym is) (go receipt p)
+  where
+    go : (o : Option ReceiptSeen) → IfSome o (IsOfRequest sizes name serial seat slip)
+        → IfSome (option_map (λ r. let w : FailedSeen = record { cache = called; receipt = r } in w) o)
+        (λ w. IsOfRequest sizes name given seat slip w.receipt)
+    go None p = tt
+    go (Some r) p = subst (λ n. IsOfRequest sizes name n seat slip r) (sym same) p
 
 -- a buffer that comes back is as long as it was
 pub back_sized : (a : Ended) (f : FinishedTask) (n : ℕ) → EndGivesBack f (Ok a) → length f.bytes ≡ n → length (buffer_of a) ≡ n
@@ -175,14 +243,15 @@ begins_then sizes name job a b c slip p q = record {
   own = p.own;
 }
 
-pub denied_begun : (old new : HeldSeen) (before after : SeatSeen) (d : Denied) → IsFirstDenied old new before after d
-    → IsDenied IsFlushBegin before after d
-denied_begun old new before after d q =
-    denied_by IsFlushBegin (event.FlushBegin q.file) old new before after d tt q.denied
+module _ (sizes : Sizes) (name : ℕ) (whole : Room) where
+  pub denied_begun : (old new : HeldSeen) (before after : SeatSeen) (d : Denied) → IsFirstDenied sizes name whole old new before after d
+      → IsDenied sizes name whole IsFlushBegin before after d
+  denied_begun old new before after d q =
+      denied_by sizes name whole IsFlushBegin (event.FlushBegin q.file) old new before after d tt q.denied
 
-pub unbegun : (old new : HeldSeen) (before after : SeatSeen) (d : Denied) → IsFirstDenied old new before after d
-    → MadeOne d.slip before after
-unbegun old new before after d q = denied_one (event.FlushBegin q.file) old new before after d q.denied
+  pub unbegun : (old new : HeldSeen) (before after : SeatSeen) (d : Denied) → IsFirstDenied sizes name whole old new before after d
+      → MadeOne d.slip before after
+  unbegun old new before after d q = denied_one sizes name whole (event.FlushBegin q.file) old new before after d q.denied
 
 pub begun_one : (job : Task) (slip : Slip) (old new : HeldSeen) (before after : SeatSeen)
     → Writes job slip old new before after → MadeOne (Some slip) before after

@@ -32,6 +32,7 @@ use Rattle.pc_types.specs.declared.refusal.Refusal.TheVariants.{BadHandle, Dirty
 use Rattle.trail.specs.declared.entry.Entry.{Entry}
 use Rattle.trail.specs.Entries.{entry_of}
 use Rattle.trail.specs.History.{After}
+use Rattle.trail.specs.Room.{Room}
 use Rattle.held.specs.declared.log.Slip.{Slip}
 use Rattle.held.specs.Entered.{Made}
 use Rattle.held.specs.Shown.{HeldSeen, SeatSeen}
@@ -46,7 +47,8 @@ use Rattle.shared.specs.Called.{is_for_now, may_pass}
 use Rattle.shared.specs.Own.{IsEviction, IsRoomEvent, admitted}
 use Rattle.shared.specs.Rooms.{FailsToWrite, IsAtRest, IsCrammed, IsFinal, IsFinalOr, IsLost, IsRoomLost, IsRoomTry, IsUnwritten, is_written, wants_room}
 use Rattle.shared.proofs.CutRequests.{cut_busy, none_cut}
-use Rattle.shared.proofs.Making.{makes_by}
+use Rattle.shared.specs.Denials.{IsFullFor}
+use Rattle.shared.proofs.Making.{full_at, full_on, makes_by}
 use Rattle.shared.proofs.Sparing.{IsAsked, has_to_write, stops_unrefused}
 
 -- ---- refusals of another kind
@@ -89,25 +91,56 @@ room_refused s new event.Evict why is step =
 room_refused s new event.Age why is step = absurd step.0
 room_refused s new e why is step = absurd is
 
-pub room_unwanted : (e : Event) (old new : HeldSeen) (before after : SeatSeen) (d : Denied) → IsRoomEvent e
-    → under.IsDenied e old new before after d → wants_room d.refusal ≡ false
-room_unwanted e old new before after d is q = go d.refusal d.slip q
-  where
-    go : (r : Refusal) (o : Option Slip) → under.DeniedBy e old new before after r o → wants_room r ≡ false
-    go r None q = subst (λ (x : Refusal). wants_room x ≡ false) (sym q.0) refl
-    go r (Some slip) q = room_refused old.core.state new.core.state e r is q.step
+module _ (sizes : Sizes) (name : ℕ) (whole : Room) where
+  pub room_unwanted : (e : Event) (old new : HeldSeen) (before after : SeatSeen) (d : Denied) → IsRoomEvent e
+      → under.IsDenied sizes name whole e old new before after d → wants_room d.refusal ≡ false
+  room_unwanted e old new before after d is q = go d.refusal d.slip q
+    where
+      go : (r : Refusal) (o : Option Slip) → under.DeniedBy sizes name whole e old new before after r o → wants_room r ≡ false
+      go r None q = subst (λ (x : Refusal). wants_room x ≡ false) (sym q.0) refl
+      go r (Some slip) q = room_refused old.core.state new.core.state e r is q.step
 
-pub age_unwanted : (old new : HeldSeen) (before after : SeatSeen) (d : Denied)
-    → under.IsDenied event.Age old new before after d → wants_room d.refusal ≡ false
-age_unwanted old new before after d q = room_unwanted event.Age old new before after d tt q
+  pub age_unwanted : (old new : HeldSeen) (before after : SeatSeen) (d : Denied)
+      → under.IsDenied sizes name whole event.Age old new before after d → wants_room d.refusal ≡ false
+  age_unwanted old new before after d q = room_unwanted event.Age old new before after d tt q
 
-pub evict_unwanted : (old new : HeldSeen) (before after : SeatSeen) (d : Denied)
-    → under.IsDenied event.Evict old new before after d → wants_room d.refusal ≡ false
-evict_unwanted old new before after d q = room_unwanted event.Evict old new before after d tt q
+  pub evict_unwanted : (old new : HeldSeen) (before after : SeatSeen) (d : Denied)
+      → under.IsDenied sizes name whole event.Evict old new before after d → wants_room d.refusal ≡ false
+  evict_unwanted old new before after d q = room_unwanted event.Evict old new before after d tt q
 
-pub first_unwanted : (old new : HeldSeen) (before after : SeatSeen) (d : Denied) → IsFirstDenied old new before after d
-    → wants_room d.refusal ≡ false
-first_unwanted old new before after d q = room_unwanted (event.FlushBegin q.file) old new before after d tt q.denied
+  pub first_unwanted : (old new : HeldSeen) (before after : SeatSeen) (d : Denied) → IsFirstDenied sizes name whole old new before after d
+      → wants_room d.refusal ≡ false
+  first_unwanted old new before after d q = room_unwanted (event.FlushBegin q.file) old new before after d tt q.denied
+
+abbrev bare : Refusal → Denied
+bare r = record { refusal = r; slip = None }
+
+-- to let a page go is refused by a full trail alone
+module _ (sizes : Sizes) (name : ℕ) (whole : Room) where
+  pub full_age : (old new : HeldSeen) (before after : SeatSeen) (d : Denied)
+      → under.IsDenied sizes name whole event.Age old new before after d → IsFullFor sizes name whole IsEviction before after d
+  full_age old new before after d q = go d.refusal d.slip q
+    where
+      go : (r : Refusal) (o : Option Slip) → under.DeniedBy sizes name whole event.Age old new before after r o
+          → IsFullFor sizes name whole IsEviction before after (record { refusal = r; slip = o })
+      go r None q = (ap bare q.0, full_at sizes name whole IsEviction event.Age old new before after tt q.1)
+      go r (Some slip) q = absurd q.step.0
+
+  pub full_evict : (old new : HeldSeen) (a b c : SeatSeen) (d : Denied) → Goes a b
+      → under.IsDenied sizes name whole event.Evict old new b c d → IsFullFor sizes name whole IsEviction a c d
+  full_evict old new a b c d goes q = go d.refusal d.slip q
+    where
+      go : (r : Refusal) (o : Option Slip) → under.DeniedBy sizes name whole event.Evict old new b c r o
+          → IsFullFor sizes name whole IsEviction a c (record { refusal = r; slip = o })
+      go r None q = (
+        ap bare q.0,
+        full_on sizes name whole IsEviction IsEviction a b c (λ e x. x) goes (full_at sizes name whole IsEviction event.Evict old new b c tt q.1),
+      )
+      go r (Some slip) q =
+          elim (answered (tests old.core.state event.Evict) old.core.state event.Evict (reply.Refused r) new.core.state q.step) [
+            | inl a ↦ absurd (never_refused (has_idle old.core.state) r a.0)
+            | inr a ↦ absurd a.1
+          ]
 
 -- nor is a read
 read_tested : (there none long : Bool) (last : Option Reply) (why : Refusal) → (last ≡ Some (reply.Refused why) → ⊥)
@@ -143,17 +176,18 @@ unwanted_of why e = by (wants_room why) refl
     by false is = refl
     by true is = let x : true ≡ false = sym (wants_pass why is) ∙ e in absurd cc
 
-pub read_lasts : (h : HandleId) (o n : ℕ) (old new : HeldSeen) (before after : SeatSeen) (d : Denied)
-    → under.IsDenied (event.Read h o n) old new before after d → is_for_now d.refusal ≡ false
-read_lasts h o n old new before after d q = go d.refusal d.slip q
-  where
-    go : (r : Refusal) (k : Option Slip) → under.DeniedBy (event.Read h o n) old new before after r k → is_for_now r ≡ false
-    go r None q = subst (λ (x : Refusal). is_for_now x ≡ false) (sym q.0) refl
-    go r (Some slip) q = read_refused old.core.state new.core.state h o n r q.step
+module _ (sizes : Sizes) (name : ℕ) (whole : Room) where
+  pub read_lasts : (h : HandleId) (o n : ℕ) (old new : HeldSeen) (before after : SeatSeen) (d : Denied)
+      → under.IsDenied sizes name whole (event.Read h o n) old new before after d → is_for_now d.refusal ≡ false
+  read_lasts h o n old new before after d q = go d.refusal d.slip q
+    where
+      go : (r : Refusal) (k : Option Slip) → under.DeniedBy sizes name whole (event.Read h o n) old new before after r k → is_for_now r ≡ false
+      go r None q = subst (λ (x : Refusal). is_for_now x ≡ false) (sym q.0) refl
+      go r (Some slip) q = read_refused old.core.state new.core.state h o n r q.step
 
-pub read_unwanted : (h : HandleId) (o n : ℕ) (old new : HeldSeen) (before after : SeatSeen) (d : Denied)
-    → under.IsDenied (event.Read h o n) old new before after d → wants_room d.refusal ≡ false
-read_unwanted h o n old new before after d q = unwanted_of d.refusal (read_lasts h o n old new before after d q)
+  pub read_unwanted : (h : HandleId) (o n : ℕ) (old new : HeldSeen) (before after : SeatSeen) (d : Denied)
+      → under.IsDenied sizes name whole (event.Read h o n) old new before after d → wants_room d.refusal ≡ false
+  read_unwanted h o n old new before after d q = unwanted_of d.refusal (read_lasts h o n old new before after d q)
 
 pub lost_unwanted : (sizes : Sizes) (name : ℕ) (after : SeatSeen) (d : Denied) → wants_room d.refusal ≡ false
     → IsLost sizes name after d
@@ -264,30 +298,31 @@ lost_by sizes name e why old new before at after slip geometry asked wants m leg
         crammed.0 crammed.1 none)
     since (inr fails) = fails
 
--- an event was refused, and it stands if the cache is crammed
-pub lost_denied : (sizes : Sizes) (name : ℕ) (e : Event) (old new : HeldSeen) (before at after : SeatSeen) (first d : Denied)
-    → IsTrue (is_geometry sizes) → IsAsked e → under.IsDenied e old new before at first
-    → After sizes name new.log.history new.core.state → Goes at after
-    → (wants_room d.refusal ≡ true
-    → (d ≡ first) × IsCrammed d.refusal new.core.state × IsUnwritten new.core.state at after)
-    → IsLost sizes name after d
-lost_denied sizes name e old new before at after first d geometry asked q legal goes f = λ wants.
-    let k = f wants in
-    let there = go first.refusal first.slip q (subst (λ (x : Denied). wants_room x.refusal ≡ true) k.0 wants)
-    (subst (λ (x : Denied). IsCrammed x.refusal new.core.state) k.0 k.1) k.2 in
-    subst (λ (x : Denied). (slip : Slip) × (x.slip ≡ Some slip) × IsRoomLost sizes name x.refusal after slip) (sym k.0)
-    there
-  where
-    go : (r : Refusal) (o : Option Slip) → under.DeniedBy e old new before at r o → wants_room r ≡ true
-        → IsCrammed r new.core.state → IsUnwritten new.core.state at after
-        → (slip : Slip) × (o ≡ Some slip) × IsRoomLost sizes name r after slip
-    go r None q wants crammed unwritten =
-        let other : wants_room r ≡ false = subst (λ (x : Refusal). wants_room x ≡ false) (sym q.0) refl in absurd cc
-    go r (Some slip) q wants crammed unwritten = (
-      slip,
-      refl,
-      lost_by sizes name e r old new before at after slip geometry asked wants q legal crammed unwritten goes,
-    )
+module _ (whole : Room) where
+  -- an event was refused, and it stands if the cache is crammed
+  pub lost_denied : (sizes : Sizes) (name : ℕ) (e : Event) (old new : HeldSeen) (before at after : SeatSeen) (first d : Denied)
+      → IsTrue (is_geometry sizes) → IsAsked e → under.IsDenied sizes name whole e old new before at first
+      → After sizes name new.log.history new.core.state → Goes at after
+      → (wants_room d.refusal ≡ true
+      → (d ≡ first) × IsCrammed d.refusal new.core.state × IsUnwritten new.core.state at after)
+      → IsLost sizes name after d
+  lost_denied sizes name e old new before at after first d geometry asked q legal goes f = λ wants.
+      let k = f wants in
+      let there = go first.refusal first.slip q (subst (λ (x : Denied). wants_room x.refusal ≡ true) k.0 wants)
+      (subst (λ (x : Denied). IsCrammed x.refusal new.core.state) k.0 k.1) k.2 in
+      subst (λ (x : Denied). (slip : Slip) × (x.slip ≡ Some slip) × IsRoomLost sizes name x.refusal after slip) (sym k.0)
+      there
+    where
+      go : (r : Refusal) (o : Option Slip) → under.DeniedBy sizes name whole e old new before at r o → wants_room r ≡ true
+          → IsCrammed r new.core.state → IsUnwritten new.core.state at after
+          → (slip : Slip) × (o ≡ Some slip) × IsRoomLost sizes name r after slip
+      go r None q wants crammed unwritten =
+          let other : wants_room r ≡ false = subst (λ (x : Refusal). wants_room x ≡ false) (sym q.0) refl in absurd cc
+      go r (Some slip) q wants crammed unwritten = (
+        slip,
+        refl,
+        lost_by sizes name e r old new before at after slip geometry asked wants q legal crammed unwritten goes,
+      )
 
 -- ---- no request is in flight at the entry of a refusal that may pass when one ends
 
@@ -359,31 +394,32 @@ pub io_final : (sizes : Sizes) (name : ℕ) (after : SeatSeen) (code : ℕ) (d :
     → IsFinal sizes name after d
 io_final sizes name after code d is = final_lasting sizes name after d (ap is_for_now is)
 
-pub age_final : (sizes : Sizes) (name : ℕ) (old new : HeldSeen) (before after : SeatSeen) (d : Denied)
-    → under.IsDenied event.Age old new before after d → IsFinal sizes name after d
-age_final sizes name old new before after d q = final_lasting sizes name after d (go d.refusal d.slip q)
-  where
-    go : (r : Refusal) (o : Option Slip) → under.DeniedBy event.Age old new before after r o → is_for_now r ≡ false
-    go r None q = subst (λ (x : Refusal). is_for_now x ≡ false) (sym q.0) refl
-    go r (Some slip) q = absurd q.step.0
+module _ (whole : Room) where
+  pub age_final : (sizes : Sizes) (name : ℕ) (old new : HeldSeen) (before after : SeatSeen) (d : Denied)
+      → under.IsDenied sizes name whole event.Age old new before after d → IsFinal sizes name after d
+  age_final sizes name old new before after d q = final_lasting sizes name after d (go d.refusal d.slip q)
+    where
+      go : (r : Refusal) (o : Option Slip) → under.DeniedBy sizes name whole event.Age old new before after r o → is_for_now r ≡ false
+      go r None q = subst (λ (x : Refusal). is_for_now x ≡ false) (sym q.0) refl
+      go r (Some slip) q = absurd q.step.0
 
-pub evict_final : (sizes : Sizes) (name : ℕ) (old new : HeldSeen) (before after : SeatSeen) (d : Denied)
-    → under.IsDenied event.Evict old new before after d → IsFinal sizes name after d
-evict_final sizes name old new before after d q = final_lasting sizes name after d (go d.refusal d.slip q)
-  where
-    go : (r : Refusal) (o : Option Slip) → under.DeniedBy event.Evict old new before after r o → is_for_now r ≡ false
-    go r None q = subst (λ (x : Refusal). is_for_now x ≡ false) (sym q.0) refl
-    go r (Some slip) q =
-        elim (answered (tests old.core.state event.Evict) old.core.state event.Evict (reply.Refused r) new.core.state q.step) [
-          | inl a ↦ absurd (never_refused (has_idle old.core.state) r a.0)
-          | inr a ↦ absurd a.1
-        ]
+  pub evict_final : (sizes : Sizes) (name : ℕ) (old new : HeldSeen) (before after : SeatSeen) (d : Denied)
+      → under.IsDenied sizes name whole event.Evict old new before after d → IsFinal sizes name after d
+  evict_final sizes name old new before after d q = final_lasting sizes name after d (go d.refusal d.slip q)
+    where
+      go : (r : Refusal) (o : Option Slip) → under.DeniedBy sizes name whole event.Evict old new before after r o → is_for_now r ≡ false
+      go r None q = subst (λ (x : Refusal). is_for_now x ≡ false) (sym q.0) refl
+      go r (Some slip) q =
+          elim (answered (tests old.core.state event.Evict) old.core.state event.Evict (reply.Refused r) new.core.state q.step) [
+            | inl a ↦ absurd (never_refused (has_idle old.core.state) r a.0)
+            | inr a ↦ absurd a.1
+          ]
 
--- nor does the end of a request lift the refusal of a read
-pub read_final : (sizes : Sizes) (name : ℕ) (h : HandleId) (o n : ℕ) (old new : HeldSeen) (before after : SeatSeen) (d : Denied)
-    → under.IsDenied (event.Read h o n) old new before after d → IsFinal sizes name after d
-read_final sizes name h o n old new before after d q =
-    final_lasting sizes name after d (read_lasts h o n old new before after d q)
+  -- nor does the end of a request lift the refusal of a read
+  pub read_final : (sizes : Sizes) (name : ℕ) (h : HandleId) (o n : ℕ) (old new : HeldSeen) (before after : SeatSeen) (d : Denied)
+      → under.IsDenied sizes name whole (event.Read h o n) old new before after d → IsFinal sizes name after d
+  read_final sizes name h o n old new before after d q =
+      final_lasting sizes name after d (read_lasts sizes name whole h o n old new before after d q)
 
 at_rest : (sizes : Sizes) (name : ℕ) (e : Event) (why : Refusal) (old new : HeldSeen) (before at after : SeatSeen) (slip : Slip)
     → Made e (reply.Refused why) old new before at slip → After sizes name new.log.history new.core.state
@@ -404,46 +440,47 @@ at_rest sizes name e why old new before at after slip m legal rests goes =
       rests = rests;
     }
 
--- an event was refused, and that stands if no request is in flight
-pub final_denied : (sizes : Sizes) (name : ℕ) (e : Event) (old new : HeldSeen) (before at after : SeatSeen) (first d : Denied)
-    → under.IsDenied e old new before at first → After sizes name new.log.history new.core.state → Goes at after
-    → IsFinalOr first sizes name new.core.state after d → IsFinal sizes name after d
-final_denied sizes name e old new before at after first d q legal goes (inr final) = final
-final_denied sizes name e old new before at after first d q legal goes (inl k) = λ passes.
-    let there = go first.refusal first.slip q (subst (λ (x : Denied). is_for_now x.refusal ≡ true) k.0 passes) k.1 in
-    subst (λ (x : Denied). (slip : Slip) × (x.slip ≡ Some slip) × IsAtRest sizes name x.refusal after slip) (sym k.0) there
-  where
-    go : (r : Refusal) (o : Option Slip) → under.DeniedBy e old new before at r o → is_for_now r ≡ true
-        → may_pass r new.core.state ≡ false → (slip : Slip) × (o ≡ Some slip) × IsAtRest sizes name r after slip
-    go r None q passes rests =
-        let other : is_for_now r ≡ false = subst (λ (x : Refusal). is_for_now x ≡ false) (sym q.0) refl in absurd cc
-    go r (Some slip) q passes rests = (
-      slip,
-      refl,
-      at_rest sizes name e r old new before at after slip q legal rests goes,
-    )
+module _ (whole : Room) where
+  -- an event was refused, and that stands if no request is in flight
+  pub final_denied : (sizes : Sizes) (name : ℕ) (e : Event) (old new : HeldSeen) (before at after : SeatSeen) (first d : Denied)
+      → under.IsDenied sizes name whole e old new before at first → After sizes name new.log.history new.core.state → Goes at after
+      → IsFinalOr first sizes name new.core.state after d → IsFinal sizes name after d
+  final_denied sizes name e old new before at after first d q legal goes (inr final) = final
+  final_denied sizes name e old new before at after first d q legal goes (inl k) = λ passes.
+      let there = go first.refusal first.slip q (subst (λ (x : Denied). is_for_now x.refusal ≡ true) k.0 passes) k.1 in
+      subst (λ (x : Denied). (slip : Slip) × (x.slip ≡ Some slip) × IsAtRest sizes name x.refusal after slip) (sym k.0) there
+    where
+      go : (r : Refusal) (o : Option Slip) → under.DeniedBy sizes name whole e old new before at r o → is_for_now r ≡ true
+          → may_pass r new.core.state ≡ false → (slip : Slip) × (o ≡ Some slip) × IsAtRest sizes name r after slip
+      go r None q passes rests =
+          let other : is_for_now r ≡ false = subst (λ (x : Refusal). is_for_now x ≡ false) (sym q.0) refl in absurd cc
+      go r (Some slip) q passes rests = (
+        slip,
+        refl,
+        at_rest sizes name e r old new before at after slip q legal rests goes,
+      )
 
--- an event was refused, in the hold that says whether a request is in flight
-still_final : (sizes : Sizes) (name : ℕ) (e : Event) (old new : HeldSeen) (before at : SeatSeen) (first d : Denied)
-    → under.IsDenied e old new before at first → After sizes name new.log.history new.core.state → d ≡ first
-    → may_pass first.refusal new.core.state ≡ false → IsFinal sizes name at d
-still_final sizes name e old new before at first d q legal same rests =
-    final_denied sizes name e old new before at at first d q legal (goes_same at at refl)
-    (inl (same, rests))
+  -- an event was refused, in the hold that says whether a request is in flight
+  still_final : (sizes : Sizes) (name : ℕ) (e : Event) (old new : HeldSeen) (before at : SeatSeen) (first d : Denied)
+      → under.IsDenied sizes name whole e old new before at first → After sizes name new.log.history new.core.state → d ≡ first
+      → may_pass first.refusal new.core.state ≡ false → IsFinal sizes name at d
+  still_final sizes name e old new before at first d q legal same rests =
+      final_denied sizes name e old new before at at first d q legal (goes_same at at refl)
+      (inl (same, rests))
 
--- of the first file to write
-pub first_final : (sizes : Sizes) (name : ℕ) (old new : HeldSeen) (before at : SeatSeen) (first d : Denied)
-    → IsFirstDenied old new before at first → After sizes name new.log.history new.core.state → d ≡ first
-    → may_pass first.refusal new.core.state ≡ false → IsFinal sizes name at d
-first_final sizes name old new before at first d q legal same rests =
-    still_final sizes name (event.FlushBegin q.file) old new before at first d q.denied legal same rests
+  -- of the first file to write
+  pub first_final : (sizes : Sizes) (name : ℕ) (old new : HeldSeen) (before at : SeatSeen) (first d : Denied)
+      → IsFirstDenied sizes name whole old new before at first → After sizes name new.log.history new.core.state → d ≡ first
+      → may_pass first.refusal new.core.state ≡ false → IsFinal sizes name at d
+  first_final sizes name old new before at first d q legal same rests =
+      still_final sizes name (event.FlushBegin q.file) old new before at first d q.denied legal same rests
 
--- and of a sync's step
-pub step_final : (sizes : Sizes) (name : ℕ) (m : SyncId) (old new : HeldSeen) (before at : SeatSeen) (first d : Denied)
-    → under.IsDenied (event.SyncStep m) old new before at first → After sizes name new.log.history new.core.state → d ≡ first
-    → may_pass first.refusal new.core.state ≡ false → IsFinal sizes name at d
-step_final sizes name m old new before at first d q legal same rests =
-    still_final sizes name (event.SyncStep m) old new before at first d q legal same rests
+  -- and of a sync's step
+  pub step_final : (sizes : Sizes) (name : ℕ) (m : SyncId) (old new : HeldSeen) (before at : SeatSeen) (first d : Denied)
+      → under.IsDenied sizes name whole (event.SyncStep m) old new before at first → After sizes name new.log.history new.core.state → d ≡ first
+      → may_pass first.refusal new.core.state ≡ false → IsFinal sizes name at d
+  step_final sizes name m old new before at first d q legal same rests =
+      still_final sizes name (event.SyncStep m) old new before at first d q legal same rests
 
 -- the seat saw more since
 pub final_on : (sizes : Sizes) (name : ℕ) (at after : SeatSeen) (d : Denied) → Goes at after → IsFinal sizes name at d

@@ -35,6 +35,8 @@ use Rattle.pc_types.specs.declared.refusal.Refusal.{Refusal}
 use Rattle.pc_types.specs.declared.refusal.Refusal.TheVariants.{Stranger, TrailFull}
 use Rattle.trail.specs.declared.entry.Entry.{Entry}
 use Rattle.trail.specs.Entries.{end_with, entry_of, noted}
+use Rattle.pc_types.specs.Limits.{Sizes}
+use Rattle.trail.specs.Room.{Room}
 use Rattle.held.specs.Started.{as_fill}
 use Rattle.held.specs.declared.started.FillStarted.{FillStarted}
 use Rattle.held.specs.declared.started.FillStarted.TheVariants as started
@@ -46,7 +48,7 @@ use Rattle.held.specs.Called.{Only}
 use Rattle.held.specs.Denials as under
 use Rattle.held.specs.Firsts.{IsFirstDenied, Writes}
 use Rattle.held.specs.declared.denied.Denied.{Denied}
-use Rattle.held.proofs.Seats.{only_by, only_on, only_same, only_wider}
+use Rattle.held.proofs.Seats.{only_any, only_by, only_on, only_same, only_wider}
 use Rattle.shared.specs.Changes.{event_of}
 use Rattle.shared.specs.declared.writes.Change.{Change}
 use Rattle.shared.specs.declared.writes.Change.TheVariants.{Append, Truncate, Write}
@@ -279,6 +281,10 @@ settles_none name own a b begins ends p = record {
   own = own_none name own a b ends p;
 }
 
+-- nothing was made
+settles_seen : (name : ℕ) (a b : SeatSeen) → Only (λ _. ⊥) a b → Settles name a b
+settles_seen name a b p = settles_none name (λ _. ⊥) a b (λ x e none is. none) (λ e none is. none) p
+
 -- one event that begins nothing and ends nothing
 pub settles_by : (name : ℕ) (e : Event) (r : Reply) (old new : HeldSeen) (a b : SeatSeen) (slip : Slip)
     → ((x : Kind × ℕ) → IsBegun x (noted e r) r → ⊥) → (IsEnd e → ⊥) → Made e r old new a b slip → Settles name a b
@@ -288,18 +294,19 @@ settles_by name e r old new a b slip begins ends m =
     (λ l is b. ends (noted_end e r (subst (λ (y : Entry). IsEnd y.event) is b)))
     (only_by (λ l. l ≡ entry_of a.number e r) e r old new a b slip refl m)
 
-pub settles_denied : (name : ℕ) (e : Event) (old new : HeldSeen) (a b : SeatSeen) (d : Denied) → (IsEnd e → ⊥)
-    → under.IsDenied e old new a b d → Settles name a b
-settles_denied name e old new a b d ends q = go d.refusal d.slip q
-  where
-    go : (r : Refusal) (o : Option Slip) → under.DeniedBy e old new a b r o → Settles name a b
-    go r None q = settles_same name a b q.2.1
-    go r (Some slip) q = settles_by name e (reply.Refused r) old new a b slip (λ x b. refused_begins x e r b) ends q
+module _ (sizes : Sizes) (whole : Room) where
+  pub settles_denied : (name : ℕ) (e : Event) (old new : HeldSeen) (a b : SeatSeen) (d : Denied) → (IsEnd e → ⊥)
+      → under.IsDenied sizes name whole e old new a b d → Settles name a b
+  settles_denied name e old new a b d ends q = go d.refusal d.slip q
+    where
+      go : (r : Refusal) (o : Option Slip) → under.DeniedBy sizes name whole e old new a b r o → Settles name a b
+      go r None q = settles_seen name a b q.1.shown.only
+      go r (Some slip) q = settles_by name e (reply.Refused r) old new a b slip (λ x b. refused_begins x e r b) ends q
 
-pub settles_first_denied : (name : ℕ) (old new : HeldSeen) (a b : SeatSeen) (d : Denied) → IsFirstDenied old new a b d
-    → Settles name a b
-settles_first_denied name old new a b d q =
-    settles_denied name (event.FlushBegin q.file) old new a b d (λ is. is) q.denied
+  pub settles_first_denied : (name : ℕ) (old new : HeldSeen) (a b : SeatSeen) (d : Denied) → IsFirstDenied sizes name whole old new a b d
+      → Settles name a b
+  settles_first_denied name old new a b d q =
+      settles_denied name (event.FlushBegin q.file) old new a b d (λ is. is) q.denied
 
 pub settles_evicted : (name : ℕ) (a b : SeatSeen) → Only (λ e. IsEviction e.event) a b → Settles name a b
 settles_evicted name a b p =
@@ -540,6 +547,11 @@ pub missed_same : (own : Event) (a b : SeatSeen) → b ≡ a → FillsMissed own
 missed_same own a b e =
     pairs_same (λ p e. Fills p e.event) (λ p e. (e.event ≡ own) × (e.reply ≡ reply.Miss p)) a b e
 
+missed_seen : (own : Event) (a b : SeatSeen) → Only (λ _. ⊥) a b → FillsMissed own a b
+missed_seen own a b p =
+    pairs_none (λ p e. Fills p e.event) (λ p e. (e.event ≡ own) × (e.reply ≡ reply.Miss p)) (λ _. ⊥) a b
+    (λ x e none is. none) p
+
 pub missed_on : (own : Event) (a b c : SeatSeen) → FillsMissed own a b → FillsMissed own b c → FillsMissed own a c
 missed_on own a b c p q =
     pairs_on (λ p e. Fills p e.event) (λ p e. (e.event ≡ own) × (e.reply ≡ reply.Miss p)) a b c p q
@@ -557,13 +569,14 @@ missed_by own e r old new a b slip never m =
     (λ p l is f. never p (subst (λ (y : Entry). Fills p y.event) is f))
     (only_by (λ l. l ≡ entry_of a.number e r) e r old new a b slip refl m)
 
-pub missed_denied : (own e : Event) (old new : HeldSeen) (a b : SeatSeen) (d : Denied)
-    → ((p : PageIndex) (r : Reply) → Fills p (noted e r) → ⊥) → under.IsDenied e old new a b d → FillsMissed own a b
-missed_denied own e old new a b d never q = go d.refusal d.slip q
-  where
-    go : (r : Refusal) (o : Option Slip) → under.DeniedBy e old new a b r o → FillsMissed own a b
-    go r None q = missed_same own a b q.2.1
-    go r (Some slip) q = missed_by own e (reply.Refused r) old new a b slip (λ p f. never p (reply.Refused r) f) q
+module _ (sizes : Sizes) (name : ℕ) (whole : Room) where
+  pub missed_denied : (own e : Event) (old new : HeldSeen) (a b : SeatSeen) (d : Denied)
+      → ((p : PageIndex) (r : Reply) → Fills p (noted e r) → ⊥) → under.IsDenied sizes name whole e old new a b d → FillsMissed own a b
+  missed_denied own e old new a b d never q = go d.refusal d.slip q
+    where
+      go : (r : Refusal) (o : Option Slip) → under.DeniedBy sizes name whole e old new a b r o → FillsMissed own a b
+      go r None q = missed_seen own a b q.1.shown.only
+      go r (Some slip) q = missed_by own e (reply.Refused r) old new a b slip (λ p f. never p (reply.Refused r) f) q
 
 -- the event was answered a missing page, and no other was filled
 pub missed_filled : (own : Event) (p : PageIndex) (old new : HeldSeen) (a b c : SeatSeen) (slip : Slip)
@@ -590,13 +603,14 @@ pub other_begun : (h : HandleId) (p : PageIndex) (r : Reply) (old new : HeldSeen
     → Made (event.FillBegin h p) r old new a b slip → Only (λ l. FillsNoOther p l.event) a b
 other_begun h p r old new a b slip m = other_event p (event.FillBegin h p) r old new a b slip refl m
 
-other_denied : (h : HandleId) (p : PageIndex) (old new : HeldSeen) (a b : SeatSeen) (d : Denied)
-    → under.IsDenied (event.FillBegin h p) old new a b d → Only (λ l. FillsNoOther p l.event) a b
-other_denied h p old new a b d q = go d.refusal d.slip q
-  where
-    go : (r : Refusal) (o : Option Slip) → under.DeniedBy (event.FillBegin h p) old new a b r o → Only (λ l. FillsNoOther p l.event) a b
-    go r None q = only_same (λ l. FillsNoOther p l.event) a b q.2.1
-    go r (Some slip) q = other_begun h p (reply.Refused r) old new a b slip q
+module _ (sizes : Sizes) (name : ℕ) (whole : Room) where
+  other_denied : (h : HandleId) (p : PageIndex) (old new : HeldSeen) (a b : SeatSeen) (d : Denied)
+      → under.IsDenied sizes name whole (event.FillBegin h p) old new a b d → Only (λ l. FillsNoOther p l.event) a b
+  other_denied h p old new a b d q = go d.refusal d.slip q
+    where
+      go : (r : Refusal) (o : Option Slip) → under.DeniedBy sizes name whole (event.FillBegin h p) old new a b r o → Only (λ l. FillsNoOther p l.event) a b
+      go r None q = only_any (λ l. FillsNoOther p l.event) a b q.1.shown.only
+      go r (Some slip) q = other_begun h p (reply.Refused r) old new a b slip q
 
 pub other_room : (p : PageIndex) (a b : SeatSeen) → Only (λ l. IsRoomEvent l.event) a b → Only (λ l. FillsNoOther p l.event) a b
 other_room p a b only =
@@ -606,12 +620,13 @@ pub other_on : (p : PageIndex) (a b c : SeatSeen) → Only (λ l. IsRoomEvent l.
     → Only (λ l. FillsNoOther p l.event) a c
 other_on p a b c before only = only_on (λ l. FillsNoOther p l.event) a b c (other_room p a b before) only
 
--- it was refused, and room was made
-pub other_relieved : (h : HandleId) (p : PageIndex) (old new : HeldSeen) (a b c : SeatSeen) (d : Denied)
-    → under.IsDenied (event.FillBegin h p) old new a b d → Only (λ l. IsRoomEvent l.event) b c
-    → Only (λ l. FillsNoOther p l.event) a c
-other_relieved h p old new a b c d q room =
-    only_on (λ l. FillsNoOther p l.event) a b c (other_denied h p old new a b d q) (other_room p b c room)
+module _ (sizes : Sizes) (name : ℕ) (whole : Room) where
+  -- it was refused, and room was made
+  pub other_relieved : (h : HandleId) (p : PageIndex) (old new : HeldSeen) (a b c : SeatSeen) (d : Denied)
+      → under.IsDenied sizes name whole (event.FillBegin h p) old new a b d → Only (λ l. IsRoomEvent l.event) b c
+      → Only (λ l. FillsNoOther p l.event) a c
+  other_relieved h p old new a b c d q room =
+      only_on (λ l. FillsNoOther p l.event) a b c (other_denied sizes name whole h p old new a b d q) (other_room p b c room)
 
 one_no_other : (name : ℕ) (x : Kind × ℕ) (p : PageIndex) (e : Event) → IsEnded name x e → FillsNoOther p e
 one_no_other name x p (event.FillBegin h q) is = absurd is

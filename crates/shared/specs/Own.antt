@@ -1,5 +1,6 @@
 -- The events of a call.
 use Rattle.std.specs.Prelude.{◌≡◌, ◌⊎◌, ℕ, Result, Ok, Err, if◌then◌else◌, ◌==◌}
+use Rattle.pc_types.specs.Limits.{Sizes}
 use Rattle.pc_types.specs.declared.ids.HandleId.{HandleId}
 use Rattle.pc_types.specs.declared.refusal.Refusal.{Refusal}
 use Rattle.pc_types.specs.declared.refusal.Refusal.TheVariants.{BadHandle, Stranger}
@@ -7,6 +8,7 @@ use Rattle.machine.specs.declared.event.Event.{Event}
 use Rattle.machine.specs.declared.event.Event.TheVariants as event
 use Rattle.machine.specs.declared.event.Reply.{Reply}
 use Rattle.machine.specs.declared.event.Reply.TheVariants as reply
+use Rattle.trail.specs.Room.{Room}
 use Rattle.trail.specs.declared.entry.Entry.{Entry}
 use Rattle.held.specs.declared.log.Slip.{Slip}
 use Rattle.held.specs.Shown.{SeatSeen}
@@ -37,8 +39,8 @@ IsEviction event.Age = Unit {0}
 IsEviction e = ⊥
 
 -- the refusal stands, or making room was refused
-abbrev pub IsStillDenied : Denied → SeatSeen → SeatSeen → Denied → Type 0
-IsStillDenied first before after d = (d ≡ first) ⊎ IsDenied IsRoomEvent before after d
+abbrev pub IsStillDenied : Sizes → ℕ → Room → Denied → SeatSeen → SeatSeen → Denied → Type 0
+IsStillDenied sizes name whole first before after d = (d ≡ first) ⊎ IsDenied sizes name whole IsRoomEvent before after d
 
 -- what a call by this handle does that is to make this event
 abbrev pub IsCallOf : HandleId → Event → Event → Type 0

@@ -18,6 +18,7 @@ use Rattle.pc_types.specs.declared.ids.SyncId.{SyncId}
 use Rattle.pc_types.specs.declared.kind.Kind.TheVariants.{Flush}
 use Rattle.pc_types.specs.declared.refusal.Refusal.TheVariants.{Io, Memory, Stranger, TrailFull}
 use Rattle.trail.specs.History.{After}
+use Rattle.trail.specs.Room.{Room}
 use Rattle.trail.specs.declared.entry.Entry.{Entry}
 use Rattle.shared.specs.Called.{Makes}
 use Rattle.shared.specs.Denials.{IsDenied, IsFullIfNoSlip, MadeOne}
@@ -103,21 +104,22 @@ IsDropped sync before after =
     (slip : Slip) × (r : Reply) × IsDropReply r × Makes before after slip (event.SyncDrop sync) r
 
 -- a step of a sync that this call began was refused, without a slip by a full trail alone, and the sync dropped
-pub record GaveUp (h : HandleId) (first last : PageIndex) (before after : SeatSeen) (d : Denied) : Type 0 where
+pub record GaveUp (sizes : Sizes) (name : ℕ) (whole : Room) (h : HandleId) (first last : PageIndex) (before after : SeatSeen) (d : Denied)
+    : Type 0 where
   pub sync : SyncId
   pub at : SeatSeen
   pub over : SeatSeen
   pub began : Began h first last sync before at
   pub goes : Goes at over
-  pub denied : IsDenied (λ e. e ≡ event.SyncStep sync) at over d
+  pub denied : IsDenied sizes name whole (λ e. e ≡ event.SyncStep sync) at over d
   pub full : d.slip ≡ None → d.refusal ≡ TrailFull
   pub dropped : IsDropped sync over after
 
 -- no sync was begun: there was no memory for it, and nothing was made; or its begin was refused
-abbrev pub IsNotBegun : HandleId → PageIndex → PageIndex → SeatSeen → SeatSeen → Denied → Type 0
-IsNotBegun h first last before after d =
+abbrev pub IsNotBegun : Sizes → ℕ → Room → HandleId → PageIndex → PageIndex → SeatSeen → SeatSeen → Denied → Type 0
+IsNotBegun sizes name whole h first last before after d =
     ((d ≡ record { refusal = Memory; slip = None }) × (after ≡ before))
-    ⊎ (IsDenied (λ e. e ≡ event.SyncBegin h first last) before after d × MadeOne d.slip before after
+    ⊎ (IsDenied sizes name whole (λ e. e ≡ event.SyncBegin h first last) before after d × MadeOne d.slip before after
     × IsFullIfNoSlip before after d)
 
 -- the seat saw a history after which the sync is in progress no longer
@@ -127,7 +129,7 @@ pub record IsGone (sizes : Sizes) (name : ℕ) (sync : SyncId) (seat : SeatSeen)
   pub gone : map.get state.syncs sync.0 ≡ None
 
 -- a step of a sync that this call began was refused, and the trail was full for its drop: another had ended it
-pub record WasLost (sizes : Sizes) (name : ℕ) (h : HandleId) (first last : PageIndex) (before after : SeatSeen) (d : Denied)
+pub record WasLost (sizes : Sizes) (name : ℕ) (whole : Room) (h : HandleId) (first last : PageIndex) (before after : SeatSeen) (d : Denied)
     : Type 0 where
   pub sync : SyncId
   pub at : SeatSeen
@@ -135,17 +137,17 @@ pub record WasLost (sizes : Sizes) (name : ℕ) (h : HandleId) (first last : Pag
   pub why : Denied
   pub began : Began h first last sync before at
   pub goes : Goes at over
-  pub denied : IsDenied (λ e. e ≡ event.SyncStep sync) at over why
+  pub denied : IsDenied sizes name whole (λ e. e ≡ event.SyncStep sync) at over why
   pub full : why.slip ≡ None → why.refusal ≡ TrailFull
   pub past : Goes over after
   pub gone : IsGone sizes name sync after
   pub is : d ≡ record { refusal = Stranger; slip = None }
 
 -- no sync was begun, or the one that was is given up, or was lost
-abbrev pub IsSyncDenied : Sizes → ℕ → HandleId → PageIndex → PageIndex → SeatSeen → SeatSeen → Denied → Type 0
-IsSyncDenied sizes name h first last before after d =
-    IsNotBegun h first last before after d
-    ⊎ (GaveUp h first last before after d ⊎ WasLost sizes name h first last before after d)
+abbrev pub IsSyncDenied : Sizes → ℕ → Room → HandleId → PageIndex → PageIndex → SeatSeen → SeatSeen → Denied → Type 0
+IsSyncDenied sizes name whole h first last before after d =
+    IsNotBegun sizes name whole h first last before after d
+    ⊎ (GaveUp sizes name whole h first last before after d ⊎ WasLost sizes name whole h first last before after d)
 
 -- the refusal has the code that the poll answered, or else that of the step which ended the sync
 pub record Reports (failed : Option ℕ) (slip : Slip) (old new : PassSeen) (d : Denied) : Type 0 where
@@ -169,9 +171,9 @@ FlushFailed h first last before after d =
     × (d ≡ record { refusal = Io code; slip = None })
 
 -- how an fsync is refused. The pass is told of what a failed write was, and of nothing else
-abbrev pub IsFsyncDenied : Sizes → ℕ → HandleId → PageIndex → PageIndex → SeatSeen → SeatSeen → PassSeen → PassSeen → Denied
+abbrev pub IsFsyncDenied : Sizes → ℕ → Room → HandleId → PageIndex → PageIndex → SeatSeen → SeatSeen → PassSeen → PassSeen → Denied
     → Type 0
-IsFsyncDenied sizes name h first last before after old new d =
+IsFsyncDenied sizes name whole h first last before after old new d =
     WriteFailed sizes name h first last before after old new d
     ⊎ ((IsLevelled old new × FlushFailed h first last before after d)
-    ⊎ ((new ≡ old) × IsSyncDenied sizes name h first last before after d))
+    ⊎ ((new ≡ old) × IsSyncDenied sizes name whole h first last before after d))

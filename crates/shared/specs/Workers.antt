@@ -1,16 +1,18 @@
 -- Workers, and what their turns make.
 use Rattle.std.specs.FinMap as map
 use Rattle.std.specs.Prelude.{map as each}
-use Rattle.std.specs.Prelude.{◌≡◌, ◌≢◌, ◌⊎◌, ◌≤◌, ◌==◌, ◌&&◌, ◌++◌, ◌∷◌, [], All, Any, ℕ, Bool, true, false, List, IfSome, Ok, Result, None, Some, count_by, if◌then◌else◌, is_some}
+use Rattle.std.specs.Prelude.{◌≡◌, ◌≢◌, ◌⊎◌, ◌<◌, ◌≤◌, ◌==◌, ◌&&◌, ◌++◌, ◌∷◌, [], All, Any, ℕ, Bool, true, false, List, IfSome, Ok, Result, None, Some, count_by, if◌then◌else◌, is_some, length, take}
 use mathlib.Core.List.{IsPrefix}
 use Rattle.atomic_table.specs.Seated.{TableId}
 use Rattle.blockdev.specs.Jobs.{Task}
+use Rattle.cachecore.specs.Flushing.{flush_of}
 use Rattle.cachecore.specs.Replies.{IsFlushJob}
 use Rattle.cachecore.specs.Wants.{IsFirstToWrite, NothingToWrite}
 use Rattle.cachecore.specs.declared.answers.FlushBegun.TheVariants as flush
 use Rattle.crossbeam_queue.specs.Fifo.{Held}
 use Rattle.crossbeam_queue.specs.Passes.{Pass, view}
 use Rattle.deeds.specs.Shown.{ParcelSeen}
+use Rattle.errboard.specs.Shown.{ReceiptSeen}
 use Rattle.machine.specs.declared.event.Event.{Event}
 use Rattle.machine.specs.declared.event.Event.TheVariants as event
 use Rattle.machine.specs.declared.event.Reply.{Reply}
@@ -106,6 +108,13 @@ pub record Ends (job : Task) (before after : SeatSeen) (slip : Slip) (told : Boo
 abbrev pub IsOwnFailure : ℕ → TableId → FailedSeen → Type 0
 IsOwnFailure name board w = (w.cache ≡ name) × (w.receipt.board ≡ board)
 
+-- the receipt is of the file of the request of this serial, as it was in flight before the slip's entry
+pub record IsOfRequest (sizes : Sizes) (name serial : ℕ) (seat : SeatSeen) (slip : Slip) (receipt : ReceiptSeen) : Type 0 where
+  pub state : State
+  pub seen : slip.place < length seat.list
+  pub leaves : After sizes name (take slip.place seat.list) state
+  pub file : flush_of state serial ≡ Some receipt.file
+
 -- the seat began a write of a page, at the slip's entry, which answered this job. Of the state before that entry the file is
 -- the first that has a page to write, and of the state after it the job is its request's, with the bytes of its page
 pub record Begins (sizes : Sizes) (name : ℕ) (job : Task) (before after : SeatSeen) (slip : Slip) : Type 0 where
@@ -188,6 +197,12 @@ AllCarried old new = Only (λ e. OnBegun (IsCarried old new) e.event e.reply) ol
 abbrev pub FailsOwn : ℕ → TableId → Flushed → Type 0
 FailsOwn name board (flushed.Ended slip done) = IfSome done.failed (IsOwnFailure name board)
 FailsOwn name board f = Unit {0}
+
+-- and of the file of the request that the turn ended
+abbrev pub FailsOf : Sizes → ℕ → SeatSeen → Flushed → Type 0
+FailsOf sizes name seat (flushed.Ended slip done) =
+    IfSome done.failed (λ w. IsOfRequest sizes name done.serial.0 seat done.slip w.receipt)
+FailsOf sizes name seat f = Unit {0}
 
 -- each job that it took from the ring in between was ended by it
 abbrev pub AllEnded : Worker → Worker → Type 0

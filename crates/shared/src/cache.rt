@@ -70,7 +70,7 @@ impl<B: Naming, D: BlockDevice, T: Trail> SharedCache<B, D, T> {
         requires named { parts.name ≡ B.name }
         requires sized { parts.geometry ≡ B.sizes }
         requires board { parts.board ≡ B.board }
-        requires state { IsLocked B.name B.table B.board B.sizes B.seats parts.held }
+        requires state { IsLocked B.name B.table B.board B.sizes B.seats B.whole parts.held }
         requires idle { map.len parts.held.core.state.requests ≡ 0 }
         requires fresh { (parts.held.log.history ≡ []) × (parts.held.core.state ≡ no_files B.sizes B.name) }
         requires own { IsWorkerOf parts.ring B.name B.table B.deeds B.sizes parts.own }

@@ -1,6 +1,6 @@
 //! A job's device call, and the end of its request: a caller's own, and a worker's.
 
-ghost use Rattle.std.specs.Prelude.{◌≡◌, IfErr, IfSome, Some, false, is_some, length};
+ghost use Rattle.std.specs.Prelude.{◌≡◌, IfErr, IfSome, Some, false, is_some, length, option_map};
 ghost use Rattle.atomic_table.specs.Seated.{TableId};
 ghost use Rattle.blockdev.specs.Jobs.{IsJobFor, Task};
 ghost use Rattle.cachecore.specs.Replies.{buffer_of, end_of};
@@ -14,7 +14,7 @@ ghost use Rattle.shared.specs.Own.{IsHelp};
 ghost use Rattle.shared.specs.Rooms.{FailsToWrite, IsFinal, is_written, wants_room};
 ghost use Rattle.shared.specs.Settled.{EndsOne, IsEnded};
 ghost use Rattle.shared.specs.Synced.{IsFlushEnd};
-ghost use Rattle.shared.specs.Workers.{Ends, IsEndOf, IsEndReply, IsOver, IsOwnFailure, fails_write};
+ghost use Rattle.shared.specs.Workers.{Ends, IsEndOf, IsEndReply, IsOfRequest, IsOver, IsOwnFailure, fails_write};
 
 use crate::brief::BriefLock;
 use crate::cache::SharedCache;
@@ -47,7 +47,7 @@ impl<B: Naming, D: BlockDevice, T: Trail> SharedCache<B, D, T> {
         requires kind { job.kind ≡ Fill }
         ensures goes { Goes seat.old seat.new }
         ensures only { Only (λ e. IsHelp handle e.event) seat.old seat.new }
-        ensures denied { IfErr result (IsDenied (IsHelp handle) seat.old seat.new) }
+        ensures denied { IfErr result (IsDenied B.sizes B.name B.whole (IsHelp handle) seat.old seat.new) }
         ensures unwanted { IfErr result (λ d. wants_room d.refusal ≡ false) }
         ensures stands { IfErr result (IsFinal B.sizes B.name seat.new) }
         ensures ends { EndsOne B.name (Fill, job.serial) seat.old seat.new }
@@ -124,6 +124,7 @@ pub(crate) fn carry_through<B: Naming, D: BlockDevice, T: Trail, R: Wait>(
     ensures ended { (result.serial.0 ≡ job.serial) × Ends job seat.old seat.new result.slip (is_some result.failed) }
     ensures one { MadeOne (Some result.slip) seat.old seat.new }
     ensures failed { IfSome result.failed (IsOwnFailure name B.board) }
+    ensures file { IfSome result.failed (λ w. IsOfRequest B.sizes B.name result.serial.0 seat.new result.slip w.receipt) }
 {
     let serial = job.job().serial();
     let report = disk.lock(rt).carry_out(job);
@@ -137,6 +138,7 @@ pub(crate) fn carry_through<B: Naming, D: BlockDevice, T: Trail, R: Wait>(
 
 /// The failed write of a receipt, where there is one.
 fn failure(name: u64, receipt: Option<Receipt>) -> Option<FailedWrite>
+    ensures is { result ≡ option_map (λ r. record { cache = name; receipt = r }) receipt }
     ensures told { is_some result ≡ is_some receipt }
     ensures own { (board : TableId) → IfSome receipt (λ r. r.board ≡ board) → IfSome result (IsOwnFailure name board) }
 {
@@ -167,7 +169,10 @@ pub(crate) fn end<B: Naming, T: Trail>(
     ensures made { (reply : Reply) × Makes seat.old seat.new result.0 (event.End report.kind (end_of report)) reply × IsEndReply reply × (is_some result.1 ≡ fails_write report.kind reply) }
     ensures one { MadeOne (Some result.0) seat.old seat.new }
     ensures own { IfSome result.1 (λ receipt. receipt.board ≡ B.board) }
+    ensures file { IfSome result.1 (IsOfRequest B.sizes B.name report.serial seat.new result.0) }
 {
+    // Lends that the history is legal.
+    let _ = state.core();
     let (_, receipt, slip) = state.end(seat, report);
     (slip, receipt)
 }

@@ -3,8 +3,8 @@
 ghost use Rattle.std.specs.Bool.{OnFalse, OnTrue};
 ghost use Rattle.std.specs.Prelude.{◌≡◌, ℕ, IfErr, IfOk, min};
 ghost use Rattle.held.specs.Called.{Goes, Only};
-ghost use Rattle.shared.specs.Denials.{IsDenied};
-ghost use Rattle.shared.specs.Own.{IsEviction, IsRoomEvent};
+ghost use Rattle.shared.specs.Denials.{IsFullFor};
+ghost use Rattle.shared.specs.Own.{IsEviction};
 ghost use Rattle.shared.specs.Workers.{FindsEnough, IsWorkerOf, LetsGo, is_alone, popped_by, pushed_by, seat_of};
 
 use crate::cache::SharedCache;
@@ -21,8 +21,9 @@ pub const SPARE_FRAMES: u64 = 16;
 
 impl<B: Naming, D: BlockDevice, T: Trail> SharedCache<B, D, T> {
     /// One turn of an evictor: while few frames are free, pages of the active list age and the first idle page goes. It ends where
-    /// enough are free, or no page is idle, and answers how many pages went. The gate is entered with 0 before each.
-    #[tactic(auto, using(held::proofs::Seats::goes_same, held::proofs::Seats::goes_on, crate::proofs::Making::room_on, held::proofs::Seats::only_same, crate::proofs::Owning::eviction_on, crate::proofs::Letting::none_gone, crate::proofs::Letting::more_gone))]
+    /// enough are free, or no page is idle, and answers how many pages went. Refused by a full trail alone. The gate is entered with 0
+    /// before each.
+    #[tactic(auto, using(held::proofs::Seats::goes_same, held::proofs::Seats::goes_on, crate::proofs::Making::full_for_on, held::proofs::Seats::only_same, crate::proofs::Owning::eviction_on, crate::proofs::Letting::none_gone, crate::proofs::Letting::more_gone))]
     pub fn evictor_turn<R: Wait, G: Gate>(
         &self,
         rt: &R,
@@ -37,7 +38,7 @@ impl<B: Naming, D: BlockDevice, T: Trail> SharedCache<B, D, T> {
         ensures enough { IfOk result (λ _. FindsEnough 16 B.sizes B.name (seat_of worker.new)) }
         ensures ring { (popped_by worker.new ≡ popped_by worker.old) × (pushed_by worker.new ≡ pushed_by worker.old) }
         ensures alone { is_alone worker.new ≡ is_alone worker.old }
-        ensures denied { IfErr result (IsDenied IsRoomEvent (seat_of worker.old) (seat_of worker.new)) }
+        ensures denied { IfErr result (IsFullFor B.sizes B.name B.whole IsEviction (seat_of worker.old) (seat_of worker.new)) }
     {
         let mut gone = 0u64;
         'pages: for _ in rt.forever() {

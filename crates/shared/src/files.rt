@@ -28,7 +28,7 @@ use trail::Trail;
 
 impl<B: Naming, D: BlockDevice, T: Trail> SharedCache<B, D, T> {
     /// Makes a new file.
-    #[tactic(auto, using(held::proofs::Seats::goes_by, held::proofs::Seats::goes_on, held::proofs::Seats::goes_same, crate::proofs::Making::goes_denied, crate::proofs::Making::makes_by, crate::proofs::Making::denied_event, crate::proofs::Making::full_by, crate::proofs::Making::made_one, crate::proofs::Making::denied_one, held::proofs::Seats::only_same, crate::proofs::Owning::only_event, crate::proofs::Owning::only_event_denied))]
+    #[tactic(auto, using(held::proofs::Seats::goes_by, held::proofs::Seats::goes_on, held::proofs::Seats::goes_same, crate::proofs::Making::goes_denied, crate::proofs::Making::makes_by, crate::proofs::Making::denied_event, crate::proofs::Making::full_by, crate::proofs::Making::made_one, crate::proofs::Making::denied_one, crate::proofs::Making::none_made, held::proofs::Seats::only_same, crate::proofs::Owning::only_event, crate::proofs::Owning::only_event_denied))]
     pub fn create<R: Wait>(&self, rt: &R, seat: &mut Seat) -> Result<(FileId, Slip), Denied>
         requires seat { seat.old.name ≡ self.now.name → seat.old.table ≡ B.table }
         ensures foreign { seat.old.name ≢ self.now.name → (result ≡ Err (record { refusal = Stranger; slip = None })) × (seat.new ≡ seat.old) }
@@ -37,7 +37,7 @@ impl<B: Naming, D: BlockDevice, T: Trail> SharedCache<B, D, T> {
         ensures answer { IfOk result (λ r. Makes seat.old seat.new r.1 event.Create (reply.File r.0)) }
         ensures one { IfOk result (λ r. MadeOne (Some r.1) seat.old seat.new) }
         ensures refused_once { IfErr result (λ d. MadeOne d.slip seat.old seat.new) }
-        ensures denied { seat.old.name ≡ self.now.name → IfErr result (IsDenied (λ e. e ≡ event.Create) seat.old seat.new) }
+        ensures denied { seat.old.name ≡ self.now.name → IfErr result (IsDenied B.sizes B.name B.whole (λ e. e ≡ event.Create) seat.old seat.new) }
         ensures full { seat.old.name ≡ self.now.name → IfErr result (IsFullIfNoSlip seat.old seat.new) }
     {
         if seat.name() != self.name {
@@ -47,7 +47,7 @@ impl<B: Naming, D: BlockDevice, T: Trail> SharedCache<B, D, T> {
     }
 
     /// Opens a file. The handle's cursor is at the beginning; with `append` its writes go to the end of the file.
-    #[tactic(auto, using(held::proofs::Seats::goes_by, held::proofs::Seats::goes_on, held::proofs::Seats::goes_same, crate::proofs::Making::goes_denied, crate::proofs::Making::makes_by, crate::proofs::Making::denied_event, crate::proofs::Making::full_by, crate::proofs::Making::made_one, crate::proofs::Making::denied_one, held::proofs::Seats::only_same, crate::proofs::Owning::only_event, crate::proofs::Owning::only_event_denied, crate::proofs::Hearing::hears_named))]
+    #[tactic(auto, using(held::proofs::Seats::goes_by, held::proofs::Seats::goes_on, held::proofs::Seats::goes_same, crate::proofs::Making::goes_denied, crate::proofs::Making::makes_by, crate::proofs::Making::denied_event, crate::proofs::Making::full_by, crate::proofs::Making::made_one, crate::proofs::Making::denied_one, crate::proofs::Making::none_made, held::proofs::Seats::only_same, crate::proofs::Owning::only_event, crate::proofs::Owning::only_event_denied, crate::proofs::Hearing::hears_named))]
     pub fn open<R: Wait>(
         &self,
         rt: &R,
@@ -66,7 +66,7 @@ impl<B: Naming, D: BlockDevice, T: Trail> SharedCache<B, D, T> {
         ensures begins { IfOk result (λ r. (r.0.cursor ≡ 0) × (r.0.append ≡ append)) }
         ensures hears { IfOk result (λ r. Hears B.sizes self.now.name r.1 seat.new r.0.pass) }
         ensures sampled { IfOk result (λ r. IsSampled r.0.pass) }
-        ensures denied { seat.old.name ≡ self.now.name → IfErr result (IsDenied (λ e. e ≡ event.Open file) seat.old seat.new) }
+        ensures denied { seat.old.name ≡ self.now.name → IfErr result (IsDenied B.sizes B.name B.whole (λ e. e ≡ event.Open file) seat.old seat.new) }
         ensures full { seat.old.name ≡ self.now.name → IfErr result (IsFullIfNoSlip seat.old seat.new) }
     {
         if seat.name() != self.name {
@@ -88,7 +88,7 @@ impl<B: Naming, D: BlockDevice, T: Trail> SharedCache<B, D, T> {
     }
 
     /// Closes a handle. It comes back where that is refused, as by `Busy` while a sync by it is in progress.
-    #[tactic(auto, using(held::proofs::Seats::goes_by, held::proofs::Seats::goes_on, held::proofs::Seats::goes_same, crate::proofs::Making::goes_denied, crate::proofs::Making::makes_by, crate::proofs::Making::denied_event, crate::proofs::Making::full_by, crate::proofs::Making::made_one, crate::proofs::Making::denied_one, held::proofs::Seats::only_same, crate::proofs::Owning::only_event, crate::proofs::Owning::only_event_denied))]
+    #[tactic(auto, using(held::proofs::Seats::goes_by, held::proofs::Seats::goes_on, held::proofs::Seats::goes_same, crate::proofs::Making::goes_denied, crate::proofs::Making::makes_by, crate::proofs::Making::denied_event, crate::proofs::Making::full_by, crate::proofs::Making::made_one, crate::proofs::Making::denied_one, crate::proofs::Making::none_made, held::proofs::Seats::only_same, crate::proofs::Owning::only_event, crate::proofs::Owning::only_event_denied))]
     pub fn close_handle<R: Wait>(
         &self,
         rt: &R,
@@ -104,7 +104,7 @@ impl<B: Naming, D: BlockDevice, T: Trail> SharedCache<B, D, T> {
         ensures answer { IfOk result (λ slip. Makes seat.old seat.new slip (event.Close handle.number) reply.Closed) }
         ensures one { IfOk result (λ slip. MadeOne (Some slip) seat.old seat.new) }
         ensures refused_once { IfErr result (λ d. MadeOne d.0.slip seat.old seat.new) }
-        ensures denied { seat.old.name ≡ self.now.name → handle.cache ≡ self.now.name → IfErr result (λ d. IsDenied (λ e. e ≡ event.Close handle.number) seat.old seat.new d.0) }
+        ensures denied { seat.old.name ≡ self.now.name → handle.cache ≡ self.now.name → IfErr result (λ d. IsDenied B.sizes B.name B.whole (λ e. e ≡ event.Close handle.number) seat.old seat.new d.0) }
         ensures full { seat.old.name ≡ self.now.name → handle.cache ≡ self.now.name → IfErr result (λ d. IsFullIfNoSlip seat.old seat.new d.0) }
         ensures back { IfErr result (λ d. d.1 ≡ handle) }
     {
@@ -122,7 +122,7 @@ impl<B: Naming, D: BlockDevice, T: Trail> SharedCache<B, D, T> {
     }
 
     /// The size of the handle's file, in bytes.
-    #[tactic(auto, using(held::proofs::Seats::goes_by, held::proofs::Seats::goes_on, held::proofs::Seats::goes_same, crate::proofs::Making::goes_denied, crate::proofs::Making::makes_by, crate::proofs::Making::denied_event, crate::proofs::Making::full_by, crate::proofs::Making::made_one, crate::proofs::Making::denied_one, held::proofs::Seats::only_same, crate::proofs::Owning::only_event, crate::proofs::Owning::only_event_denied))]
+    #[tactic(auto, using(held::proofs::Seats::goes_by, held::proofs::Seats::goes_on, held::proofs::Seats::goes_same, crate::proofs::Making::goes_denied, crate::proofs::Making::makes_by, crate::proofs::Making::denied_event, crate::proofs::Making::full_by, crate::proofs::Making::made_one, crate::proofs::Making::denied_one, crate::proofs::Making::none_made, held::proofs::Seats::only_same, crate::proofs::Owning::only_event, crate::proofs::Owning::only_event_denied))]
     pub fn size<R: Wait>(
         &self,
         rt: &R,
@@ -137,7 +137,7 @@ impl<B: Naming, D: BlockDevice, T: Trail> SharedCache<B, D, T> {
         ensures answer { IfOk result (λ r. Makes seat.old seat.new r.1 (event.Size handle.now.number) (reply.Size r.0)) }
         ensures one { IfOk result (λ r. MadeOne (Some r.1) seat.old seat.new) }
         ensures refused_once { IfErr result (λ d. MadeOne d.slip seat.old seat.new) }
-        ensures denied { seat.old.name ≡ self.now.name → handle.now.cache ≡ self.now.name → IfErr result (IsDenied (λ e. e ≡ event.Size handle.now.number) seat.old seat.new) }
+        ensures denied { seat.old.name ≡ self.now.name → handle.now.cache ≡ self.now.name → IfErr result (IsDenied B.sizes B.name B.whole (λ e. e ≡ event.Size handle.now.number) seat.old seat.new) }
         ensures full { seat.old.name ≡ self.now.name → handle.now.cache ≡ self.now.name → IfErr result (IsFullIfNoSlip seat.old seat.new) }
     {
         if let Err(refusal) = self.admits(seat, handle) {
@@ -214,7 +214,7 @@ fn open_heard<B: Naming, T: Trail>(
     ensures pass { IfOk result (λ r. (r.1.board ≡ B.board) × (r.1.file ≡ file.0)) }
     ensures hears { IfOk result (λ r. Hears B.sizes B.name r.2 seat.new r.1) }
     ensures sampled { IfOk result (λ r. IsSampled r.1) }
-    ensures denied { IfErr result (under.IsDenied (event.Open file) state.old state.new seat.old seat.new) }
+    ensures denied { IfErr result (under.IsDenied B.sizes B.name B.whole (event.Open file) state.old state.new seat.old seat.new) }
 {
     let (number, mut pass, slip) = match state.open(seat, file) {
         Ok(opened) => opened,

@@ -50,7 +50,8 @@ impl<D: BlockDevice, T: Trail> Parts<D, T> {
         requires { IsDisk geometry.now (D.told device) }
         ensures named { IfOk result (λ r. (r.0.name ≡ name) × (r.0.geometry ≡ geometry.now)) }
         ensures few { OnOk result ((0 < seat_count) × (seat_count ≤ 64)) }
-        ensures state { IfOk result (λ r. IsLocked r.0.name r.0.held.log.table r.0.board r.0.geometry (vec_len r.1 + 1) r.0.held) }
+        ensures state { IfOk result (λ r. IsLocked r.0.name r.0.held.log.table r.0.board r.0.geometry (vec_len r.1 + 1) r.0.held.log.room r.0.held) }
+        ensures room { IfOk result (λ r. r.0.held.log.room ≡ T.whole trail) }
         ensures empty { IfOk result (λ r. (r.0.held.log.history ≡ []) × (r.0.held.core ≡ record { state = no_files geometry.now name; lists = no_lists })) }
         ensures idle { IfOk result (λ r. map.len r.0.held.core.state.requests ≡ 0) }
         ensures own { IfOk result (λ r. IsWorkerOf r.0.ring r.0.name r.0.held.log.table r.0.deeds.table r.0.geometry r.0.own) }

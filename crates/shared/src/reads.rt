@@ -40,7 +40,7 @@ impl<B: Naming, D: BlockDevice, T: Trail> SharedCache<B, D, T> {
         ensures only { IfErr result (λ _. Only (IsTry handle.old.number (event.Read handle.old.number handle.old.cursor (length out.old))) seat.old seat.new) }
         ensures once { IfOk result (λ _. Once (IsTry handle.old.number (event.Read handle.old.number handle.old.cursor (length out.old))) seat.old seat.new) }
         ensures answer { IfOk result (λ r. Makes seat.old seat.new r.1 (event.Read handle.old.number handle.old.cursor (length out.old)) (reply.Bytes (take r.0 out.new))) }
-        ensures denied { seat.old.name ≡ self.now.name → handle.old.cache ≡ self.now.name → IfErr result (IsDenied (IsCallOf handle.old.number (event.Read handle.old.number handle.old.cursor (length out.old))) seat.old seat.new) }
+        ensures denied { seat.old.name ≡ self.now.name → handle.old.cache ≡ self.now.name → IfErr result (IsDenied B.sizes B.name B.whole (IsCallOf handle.old.number (event.Read handle.old.number handle.old.cursor (length out.old))) seat.old seat.new) }
         ensures lost { IfErr result (IsLost B.sizes self.now.name seat.new) }
         ensures count { IfOk result (λ r. r.0 ≤ length out.old) }
         ensures rest { drop (count_in result) out.new ≡ drop (count_in result) out.old }
@@ -78,7 +78,7 @@ impl<B: Naming, D: BlockDevice, T: Trail> SharedCache<B, D, T> {
         ensures only { IfErr result (λ _. Only (IsTry handle.now.number (event.Read handle.now.number offset (length out.old))) seat.old seat.new) }
         ensures once { IfOk result (λ _. Once (IsTry handle.now.number (event.Read handle.now.number offset (length out.old))) seat.old seat.new) }
         ensures answer { IfOk result (λ r. Makes seat.old seat.new r.1 (event.Read handle.now.number offset (length out.old)) (reply.Bytes (take r.0 out.new))) }
-        ensures denied { seat.old.name ≡ self.now.name → handle.now.cache ≡ self.now.name → IfErr result (IsDenied (IsCallOf handle.now.number (event.Read handle.now.number offset (length out.old))) seat.old seat.new) }
+        ensures denied { seat.old.name ≡ self.now.name → handle.now.cache ≡ self.now.name → IfErr result (IsDenied B.sizes B.name B.whole (IsCallOf handle.now.number (event.Read handle.now.number offset (length out.old))) seat.old seat.new) }
         ensures lost { IfErr result (IsLost B.sizes self.now.name seat.new) }
         ensures count { IfOk result (λ r. r.0 ≤ length out.old) }
         ensures rest { drop (count_in result) out.new ≡ drop (count_in result) out.old }
@@ -119,7 +119,7 @@ impl<B: Naming, D: BlockDevice, T: Trail> SharedCache<B, D, T> {
         ensures tried { IfOk result (λ o. IfNone o (Only (IsTry handle (event.Read handle offset (length out.old))) seat.old seat.new)) }
         ensures once { IfOk result (λ o. IfSome o (λ _. Once (IsTry handle (event.Read handle offset (length out.old))) seat.old seat.new)) }
         ensures answer { IfOk result (λ o. IfSome o (λ r. Makes seat.old seat.new r.1 (event.Read handle offset (length out.old)) (reply.Bytes (take r.0 out.new)))) }
-        ensures denied { IfErr result (IsDenied (IsCallOf handle (event.Read handle offset (length out.old))) seat.old seat.new) }
+        ensures denied { IfErr result (IsDenied B.sizes B.name B.whole (IsCallOf handle (event.Read handle offset (length out.old))) seat.old seat.new) }
         ensures lost { IfErr result (IsLost B.sizes B.name seat.new) }
         ensures count { IfOk result (λ o. IfSome o (λ r. r.0 ≤ length out.old)) }
         ensures rest { IfOk result (λ o. IfSome o (λ r. drop r.0 out.new ≡ drop r.0 out.old)) }

@@ -10,7 +10,7 @@ ghost use Rattle.pc_types.specs.declared.refusal.Refusal.TheVariants.{NoFrame};
 ghost use Rattle.trail.specs.History.{After};
 ghost use Rattle.held.specs.Called.{Goes, Only};
 ghost use Rattle.shared.specs.Called.{is_for_now};
-ghost use Rattle.shared.specs.Denials.{IsDenied};
+ghost use Rattle.shared.specs.Denials.{IsDenied, IsFullFor};
 ghost use Rattle.shared.specs.Own.{IsEviction, IsHelp, IsRoomEvent, IsStillDenied};
 ghost use Rattle.shared.specs.Rooms.{IsCrammed, IsFinal, IsFinalOr, IsLost, IsUnwritten, wants_room};
 ghost use Rattle.shared.specs.Settled.{FillsNoOther, Settles};
@@ -52,7 +52,7 @@ impl<B: Naming, D: BlockDevice, T: Trail> SharedCache<B, D, T> {
         requires { seat.old.table ≡ B.table }
         ensures goes { Goes seat.old seat.new }
         ensures only { Only (λ e. IsHelp span.handle e.event) seat.old seat.new }
-        ensures denied { IfErr result (IsDenied (IsHelp span.handle) seat.old seat.new) }
+        ensures denied { IfErr result (IsDenied B.sizes B.name B.whole (IsHelp span.handle) seat.old seat.new) }
         ensures lost { IfErr result (IsLost B.sizes B.name seat.new) }
         ensures stands { IfErr result (IsFinal B.sizes B.name seat.new) }
         ensures settled { Settles B.name seat.old seat.new }
@@ -76,7 +76,7 @@ impl<B: Naming, D: BlockDevice, T: Trail> SharedCache<B, D, T> {
         requires { seat.old.table ≡ B.table }
         ensures goes { Goes seat.old seat.new }
         ensures only { Only (λ e. IsHelp handle e.event) seat.old seat.new }
-        ensures denied { IfErr result (IsDenied (IsHelp handle) seat.old seat.new) }
+        ensures denied { IfErr result (IsDenied B.sizes B.name B.whole (IsHelp handle) seat.old seat.new) }
         ensures lost { IfErr result (IsLost B.sizes B.name seat.new) }
         ensures stands { IfErr result (IsFinal B.sizes B.name seat.new) }
         ensures settled { Settles B.name seat.old seat.new }
@@ -110,7 +110,7 @@ impl<B: Naming, D: BlockDevice, T: Trail> SharedCache<B, D, T> {
         requires { seat.old.table ≡ B.table }
         ensures goes { Goes seat.old seat.new }
         ensures only { Only (λ e. IsRoomEvent e.event) seat.old seat.new }
-        ensures denied { IfErr result (IsDenied IsRoomEvent seat.old seat.new) }
+        ensures denied { IfErr result (IsDenied B.sizes B.name B.whole IsRoomEvent seat.old seat.new) }
         ensures unwanted { IfErr result (λ d. wants_room d.refusal ≡ false) }
         ensures stands { IfErr result (IsFinal B.sizes B.name seat.new) }
         ensures settled { Settles B.name seat.old seat.new }
@@ -145,7 +145,7 @@ impl<B: Naming, D: BlockDevice, T: Trail> SharedCache<B, D, T> {
         requires { seat.old.table ≡ B.table }
         ensures goes { Goes seat.old seat.new }
         ensures only { Only (λ e. IsRoomEvent e.event) seat.old seat.new }
-        ensures denied { IfErr result (IsStillDenied denied seat.old seat.new) }
+        ensures denied { IfErr result (IsStillDenied B.sizes B.name B.whole denied seat.old seat.new) }
         ensures passing { IfOk result (λ _. is_for_now denied.refusal ≡ true) }
         ensures other { IfErr result (λ d. (d ≡ denied) ⊎ (wants_room denied.refusal ≡ true)) }
         ensures quiet { wants_room denied.refusal ≡ false → seat.new ≡ seat.old }
@@ -182,7 +182,7 @@ impl<B: Naming, D: BlockDevice, T: Trail> SharedCache<B, D, T> {
         requires { seat.old.table ≡ B.table }
         ensures goes { Goes seat.old seat.new }
         ensures only { Only (λ e. IsRoomEvent e.event) seat.old seat.new }
-        ensures denied { IfErr result (IsDenied IsRoomEvent seat.old seat.new) }
+        ensures denied { IfErr result (IsDenied B.sizes B.name B.whole IsRoomEvent seat.old seat.new) }
         ensures unwanted { IfErr result (λ d. wants_room d.refusal ≡ false) }
         ensures still { IfOk result (λ made. made ≡ false → is_busy (mutex_guard_value guard.entry).core.state ≡ false) }
         ensures unwritten { IfOk result (λ made. made ≡ false → IsUnwritten (mutex_guard_value guard.entry).core.state seat.old seat.new) }
@@ -197,7 +197,7 @@ impl<B: Naming, D: BlockDevice, T: Trail> SharedCache<B, D, T> {
     }
 
     /// Lets an idle page go. Where none is idle a page is written back, or the end of a request waited for.
-    #[tactic(auto, using(held::proofs::Seats::goes_on, crate::proofs::Making::room_on, crate::proofs::Owning::only_evicted, crate::proofs::Owning::only_evicted_on, crate::proofs::Rooming::unwritten_on, crate::proofs::Settling::settles_evicted))]
+    #[tactic(auto, using(held::proofs::Seats::goes_on, crate::proofs::Making::room_on, crate::proofs::Making::room_full, crate::proofs::Owning::only_evicted, crate::proofs::Owning::only_evicted_on, crate::proofs::Rooming::unwritten_on, crate::proofs::Settling::settles_evicted))]
     fn free_frame<R: Wait>(
         &self,
         rt: &R,
@@ -207,7 +207,7 @@ impl<B: Naming, D: BlockDevice, T: Trail> SharedCache<B, D, T> {
         requires { seat.old.table ≡ B.table }
         ensures goes { Goes seat.old seat.new }
         ensures only { Only (λ e. IsRoomEvent e.event) seat.old seat.new }
-        ensures denied { IfErr result (IsDenied IsRoomEvent seat.old seat.new) }
+        ensures denied { IfErr result (IsDenied B.sizes B.name B.whole IsRoomEvent seat.old seat.new) }
         ensures unwanted { IfErr result (λ d. wants_room d.refusal ≡ false) }
         ensures still { IfOk result (λ made. made ≡ false → is_busy (mutex_guard_value guard.entry).core.state ≡ false) }
         ensures unwritten { IfOk result (λ made. made ≡ false → IsUnwritten (mutex_guard_value guard.entry).core.state seat.old seat.new) }
@@ -234,7 +234,7 @@ impl<B: Naming, D: BlockDevice, T: Trail> SharedCache<B, D, T> {
         requires { seat.old.table ≡ B.table }
         ensures goes { Goes seat.old seat.new }
         ensures only { Only (λ e. IsRoomEvent e.event) seat.old seat.new }
-        ensures denied { IfErr result (IsDenied IsRoomEvent seat.old seat.new) }
+        ensures denied { IfErr result (IsDenied B.sizes B.name B.whole IsRoomEvent seat.old seat.new) }
         ensures unwanted { IfErr result (λ d. wants_room d.refusal ≡ false) }
         ensures still { IfOk result (λ made. made ≡ false → is_busy (mutex_guard_value guard.entry).core.state ≡ false) }
         ensures unwritten { IfOk result (λ made. made ≡ false → IsUnwritten (mutex_guard_value guard.entry).core.state seat.old seat.new) }
@@ -268,20 +268,20 @@ impl<B: Naming, D: BlockDevice, T: Trail> SharedCache<B, D, T> {
         ensures only { Only (λ e. IsEviction e.event) seat.old seat.new }
         ensures gone { IfOk result (λ went. LetsGo (if went then 1 else 0) seat.old seat.new) }
         ensures none { IfOk result (λ went. went ≡ false → FindsEnough 16 B.sizes B.name seat.new) }
-        ensures denied { IfErr result (IsDenied IsRoomEvent seat.old seat.new) }
+        ensures denied { IfErr result (IsFullFor B.sizes B.name B.whole IsEviction seat.old seat.new) }
     {
         evict_idle(&mut self.state.lock(rt), seat)
     }
 }
 
 /// Lets pages age, and then an idle one go. Answers whether there was one.
-#[tactic(auto, using(held::proofs::Seats::goes_by, held::proofs::Seats::goes_on, held::proofs::Seats::goes_same, crate::proofs::Making::goes_denied, crate::proofs::Making::denied_age, crate::proofs::Making::denied_evict, crate::proofs::Owning::only_age_denied, crate::proofs::Owning::only_evicts, crate::proofs::Owning::only_evict_denied, crate::proofs::Letting::evicted_gone, crate::proofs::Finding::finds_none_idle, crate::proofs::Rooming::age_unwanted, crate::proofs::Rooming::evict_unwanted, crate::proofs::Rooming::evict_none, crate::proofs::Rooming::age_final, crate::proofs::Rooming::evict_final))]
+#[tactic(auto, using(held::proofs::Seats::goes_by, held::proofs::Seats::goes_on, held::proofs::Seats::goes_same, crate::proofs::Making::goes_denied, crate::proofs::Rooming::full_age, crate::proofs::Rooming::full_evict, crate::proofs::Owning::only_age_denied, crate::proofs::Owning::only_evicts, crate::proofs::Owning::only_evict_denied, crate::proofs::Letting::evicted_gone, crate::proofs::Finding::finds_none_idle, crate::proofs::Rooming::age_unwanted, crate::proofs::Rooming::evict_unwanted, crate::proofs::Rooming::evict_none, crate::proofs::Rooming::age_final, crate::proofs::Rooming::evict_final))]
 fn evict_idle<B: Naming, T: Trail>(state: &mut Held<B, T>, seat: &mut Seat) -> Result<bool, Denied>
     requires { seat.old.table ≡ B.table }
     ensures goes { Goes seat.old seat.new }
     ensures only { Only (λ e. IsEviction e.event) seat.old seat.new }
     ensures gone { IfOk result (λ went. LetsGo (if went then 1 else 0) seat.old seat.new) }
-    ensures denied { IfErr result (IsDenied IsRoomEvent seat.old seat.new) }
+    ensures denied { IfErr result (IsFullFor B.sizes B.name B.whole IsEviction seat.old seat.new) }
     ensures unwanted { IfErr result (λ d. wants_room d.refusal ≡ false) }
     ensures found { IfOk result (λ went. went ≡ false → FindsEnough 16 B.sizes B.name seat.new) }
     ensures none { IfOk result (λ went. went ≡ false → (has_idle state.old.core.state ≡ false) × (state.new.core.state ≡ state.old.core.state)) }

@@ -20,7 +20,7 @@ use trail::Trail;
 impl<B: Naming, D: BlockDevice, T: Trail> SharedCache<B, D, T> {
     /// Puts the cursor, and answers where it is now. Refused by `TooLarge` below 0 and past the greatest size of a file. Only a place
     /// that is counted from the end of the file makes an event, which asks for the file's size.
-    #[tactic(auto, using(held::proofs::Seats::goes_by, held::proofs::Seats::goes_same, crate::proofs::Making::goes_denied, crate::proofs::Making::makes_by, crate::proofs::Making::denied_event, crate::proofs::Making::full_by, crate::proofs::Making::made_one, crate::proofs::Making::denied_one, held::proofs::Seats::only_same, crate::proofs::Owning::only_event, crate::proofs::Owning::only_event_denied))]
+    #[tactic(auto, using(held::proofs::Seats::goes_by, held::proofs::Seats::goes_same, crate::proofs::Making::goes_denied, crate::proofs::Making::makes_by, crate::proofs::Making::denied_event, crate::proofs::Making::full_by, crate::proofs::Making::made_one, crate::proofs::Making::denied_one, crate::proofs::Making::none_made, held::proofs::Seats::only_same, crate::proofs::Owning::only_event, crate::proofs::Owning::only_event_denied))]
     pub fn seek<R: Wait>(
         &self,
         rt: &R,
@@ -33,7 +33,7 @@ impl<B: Naming, D: BlockDevice, T: Trail> SharedCache<B, D, T> {
         ensures closed { seat.old.name ≡ self.now.name → handle.old.cache ≢ self.now.name → (result ≡ Err (record { refusal = BadHandle; slip = None })) × (seat.new ≡ seat.old) }
         ensures goes { Goes seat.old seat.new }
         ensures only { Only (λ e. e.event ≡ event.Size handle.old.number) seat.old seat.new }
-        ensures sought { seat.old.name ≡ self.now.name → handle.old.cache ≡ self.now.name → Seeks place handle.old seat.old seat.new result }
+        ensures sought { seat.old.name ≡ self.now.name → handle.old.cache ≡ self.now.name → Seeks B.sizes B.name B.whole place handle.old seat.old seat.new result }
         ensures cursor { handle.new ≡ record handle.old { cursor = place_after handle.old.cursor result } }
     {
         if let Err(refusal) = self.admits(seat, handle) {

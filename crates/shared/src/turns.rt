@@ -8,7 +8,7 @@ ghost use Rattle.held.specs.Called.{Goes, Only};
 ghost use Rattle.ring.specs.Order.{Stands};
 ghost use Rattle.shared.specs.Denials.{IsDenied, MadeOne};
 ghost use Rattle.shared.specs.Settled.{EndsOwn, IsBegun, IsEnded};
-ghost use Rattle.shared.specs.Workers.{AllCarried, Begins, Ends, FailsOwn, FindsNothing, IsEnd, IsEndOf, IsFlushBegin, IsFlushed, IsOwnFailure, IsWorkerOf, IsWriteBack, OnBegun, entered_in, is_alone, popped_by, pushed_by, seat_of};
+ghost use Rattle.shared.specs.Workers.{AllCarried, Begins, Ends, FailsOf, FailsOwn, FindsNothing, IsEnd, IsEndOf, IsFlushBegin, IsFlushed, IsOfRequest, IsOwnFailure, IsWorkerOf, IsWriteBack, OnBegun, entered_in, is_alone, popped_by, pushed_by, seat_of};
 
 use crate::cache::SharedCache;
 use crate::ends::{Done, carry_through};
@@ -49,6 +49,7 @@ impl<B: Naming, D: BlockDevice, T: Trail> SharedCache<B, D, T> {
         ensures emptied { IfNone result (fifo.Held 0 (Stands (view worker.new.pass))) }
         ensures ended { IfSome result (λ d. (job : Task) × (popped_by worker.new ≡ popped_by worker.old ++ job ∷ []) × (d.serial.0 ≡ job.serial) × Ends job (seat_of worker.old) (seat_of worker.new) d.slip (is_some d.failed) × IfSome d.failed (IsOwnFailure self.now.name B.board)) }
         ensures one { IfSome result (λ d. MadeOne (Some d.slip) (seat_of worker.old) (seat_of worker.new)) }
+        ensures file { IfSome result (λ d. IfSome d.failed (λ w. IsOfRequest B.sizes B.name d.serial.0 (seat_of worker.new) d.slip w.receipt)) }
         ensures passed { IfSome result (λ d. G.passed gate.now d.serial.0) }
     {
         let job = take(rt, &self.ring, &mut worker.pass)?;
@@ -77,7 +78,8 @@ impl<B: Naming, D: BlockDevice, T: Trail> SharedCache<B, D, T> {
         ensures carried { AllCarried worker.old worker.new }
         ensures count { IfOk result (λ f. (seat_of worker.new).count ≡ (seat_of worker.old).count + entered_in f) }
         ensures failed { IfOk result (λ f. FailsOwn self.now.name B.board f) }
-        ensures denied { IfErr result (IsDenied IsFlushBegin (seat_of worker.old) (seat_of worker.new)) }
+        ensures file { IfOk result (λ f. FailsOf B.sizes B.name (seat_of worker.new) f) }
+        ensures denied { IfErr result (IsDenied B.sizes B.name B.whole IsFlushBegin (seat_of worker.old) (seat_of worker.new)) }
         ensures unbegun { IfErr result (λ d. (pushed_by worker.new ≡ pushed_by worker.old) × MadeOne d.slip (seat_of worker.old) (seat_of worker.new)) }
     {
         let (job, slip) = match self.begin_flush(rt, &mut worker.seat) {
@@ -95,7 +97,7 @@ impl<B: Naming, D: BlockDevice, T: Trail> SharedCache<B, D, T> {
     }
 
     /// Begins to write a page, of the first file that has one to write.
-    #[tactic(auto, using(held::proofs::Seats::goes_same, held::proofs::Seats::goes_on, held::proofs::Seats::goes_shown, held::proofs::Seats::only_any, crate::proofs::Finding::finds_nothing, crate::proofs::Ending::begins_first, crate::proofs::Ending::denied_begun, held::proofs::Seats::only_same, crate::proofs::Ending::begun_one, crate::proofs::Ending::unbegun, crate::proofs::Owning::only_begun, crate::proofs::Owning::only_begun_denied, crate::proofs::Carrying::begins_one, crate::proofs::Carrying::begins_none, crate::proofs::Settling::writes_begun))]
+    #[tactic(auto, using(held::proofs::Seats::goes_same, held::proofs::Seats::goes_on, held::proofs::Seats::goes_shown, held::proofs::Seats::only_any, crate::proofs::Finding::finds_nothing, crate::proofs::Ending::begins_first, crate::proofs::Ending::denied_begun, held::proofs::Seats::only_same, crate::proofs::Ending::begun_one, crate::proofs::Ending::unbegun, crate::proofs::Making::none_made, crate::proofs::Owning::only_begun, crate::proofs::Owning::only_begun_denied, crate::proofs::Carrying::begins_one, crate::proofs::Carrying::begins_none, crate::proofs::Settling::writes_begun))]
     fn begin_flush<R: Wait>(
         &self,
         rt: &R,
@@ -110,7 +112,7 @@ impl<B: Naming, D: BlockDevice, T: Trail> SharedCache<B, D, T> {
         ensures alone { IfOk result (λ o. IfSome o (λ r. Only (λ e. OnBegun (λ t. t ≡ r.0.serial) e.event e.reply) seat.old seat.new)) }
         ensures write { IfOk result (λ o. IfSome o (λ r. Only (λ e. IsBegun (r.0.kind, r.0.serial) e.event e.reply) seat.old seat.new)) }
         ensures fits { IfOk result (λ o. IfSome o (λ r. IsJobFor B.name B.sizes.blocks B.sizes.page r.0)) }
-        ensures denied { IfErr result (IsDenied IsFlushBegin seat.old seat.new) }
+        ensures denied { IfErr result (IsDenied B.sizes B.name B.whole IsFlushBegin seat.old seat.new) }
         ensures unbegun { IfErr result (λ d. MadeOne d.slip seat.old seat.new × Only (λ e. OnBegun (λ _. ⊥) e.event e.reply) seat.old seat.new) }
     {
         let buffer = match Buffer::new(self.alloc, &self.geometry) {
@@ -140,6 +142,7 @@ impl<B: Naming, D: BlockDevice, T: Trail> SharedCache<B, D, T> {
         ensures ended { (result.serial.0 ≡ job.serial) × Ends job seat.old seat.new result.slip (is_some result.failed) }
         ensures one { MadeOne (Some result.slip) seat.old seat.new }
         ensures failed { IfSome result.failed (IsOwnFailure self.now.name B.board) }
+        ensures file { IfSome result.failed (λ w. IsOfRequest B.sizes B.name result.serial.0 seat.new result.slip w.receipt) }
     {
         let done = carry_through(rt, &self.disk, &self.state, self.name, seat, job);
         self.has_ended(rt);

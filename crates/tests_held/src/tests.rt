@@ -364,7 +364,7 @@ fn run_named<B: Naming>(
     mut own: Seat,
     row: Row,
 )
-    requires state { IsLocked B.name B.table B.board B.sizes B.seats opened }
+    requires state { IsLocked B.name B.table B.board B.sizes B.seats B.whole opened }
     requires fresh { (opened.log.history ≡ []) × (opened.core.state ≡ no_files B.sizes B.name) }
     requires named { (deeds.table ≡ B.deeds) × (deeds.told ≡ B.told) × (deeds.blocks ≡ B.blocks) }
     requires count { length B.blocks ≡ B.sizes.blocks }

@@ -2,6 +2,7 @@ use Rattle.std.proofs.Common.{◌≡◌, true, false, ℕ, List, [], length, ap,
 use Rattle.std.proofs.lemmas.List.{length-replicate}
 use Rattle.cachecore.specs.Core.{Core}
 use Rattle.held.proofs.Failures.{none_told}
+use Rattle.held.proofs.Rooms.{room_first}
 use Rattle.bench_threads.proofs.holds.time_held.Goals as goal
 
 pub time_named-requires-clause-state : goal.time_named-requires-clause-state
@@ -13,6 +14,7 @@ time_named-requires-clause-state g c = record {
   counted = refl;
   told = none_told c.in-Ok.opened.core.state c.in-Ok.opened.errors (ap (λ (x : Core). x.state.files) c.in-Ok.ensures.core)
       c.in-Ok.ensures.board.1;
+  room = room_first _ c.in-Ok.opened.log c.in-Ok.ensures.log.1 refl;
 }
 
 pub time_named-requires-clause-count : goal.time_named-requires-clause-count

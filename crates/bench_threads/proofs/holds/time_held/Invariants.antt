@@ -8,6 +8,7 @@ ghosts-time_named-B-Naming g a = record {
   board = a.opened.errors.board;
   sizes = a.opened.core.state.sizes;
   seats = a.opened.log.made;
+  whole = a.opened.log.room;
   blocks = a.deeds.blocks;
 }
 

@@ -3,7 +3,7 @@ use Rattle.cachecore.specs.Replies.{end_of}
 use Rattle.held.specs.Ends.{ended_as}
 use Rattle.held.proofs.Seats.{goes_by}
 use Rattle.shared.proofs.Closing.{others_made, over_made}
-use Rattle.shared.proofs.Ending.{ends_told, replies}
+use Rattle.shared.proofs.Ending.{ends_told, of_request, replies}
 use Rattle.shared.proofs.Making.{makes_by}
 use Rattle.shared.proofs.Owning.{only_end}
 use Rattle.shared.proofs.Settling.{only_ended}
@@ -38,3 +38,9 @@ returns-clause-over g c job serial =
 pub returns-clause-others : goal.returns-clause-others
 returns-clause-others g c job over =
     others_made job c.args.report.kind (end_of c.args.report) _ _ _ _ _ _ c.end-receipt.ensures.made over
+
+-- the receipt is of the request that was in flight
+pub returns-clause-file : goal.returns-clause-file
+returns-clause-file g c =
+    of_request g.B.Naming.sizes g.B.Naming.name c.args.report.serial c.args.report.kind _ _ c.end-receipt.result.0
+    c.end-receipt.result.1 _ _ _ _ _ c.core.ensures.named c.end-receipt.ensures.made c.end-receipt.ensures.receipt

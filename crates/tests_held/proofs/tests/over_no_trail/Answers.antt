@@ -2,6 +2,7 @@ use Rattle.std.proofs.Common.{ap, refl, sym, ◌∙◌}
 use Rattle.cachecore.specs.Core.{Core}
 use Rattle.pc_types.specs.Limits.{Sizes}
 use Rattle.held.proofs.Failures.{none_told}
+use Rattle.held.proofs.Rooms.{room_first}
 use Rattle.tests_held.proofs.Firsts.{first_zeros, fresh_as, sizes_of}
 use Rattle.tests_held.proofs.tests.over_no_trail.Goals as goal
 
@@ -14,6 +15,7 @@ run_named-requires-clause-state g c = record {
   counted = refl;
   told = none_told c.in-Ok.opened.core.state c.in-Ok.opened.errors (ap (λ (x : Core). x.state.files) c.in-Ok.ensures.core)
       c.in-Ok.ensures.board.1;
+  room = room_first _ c.in-Ok.opened.log c.in-Ok.ensures.log.1 refl;
 }
 
 pub run_named-requires-clause-fresh : goal.run_named-requires-clause-fresh

@@ -2,6 +2,7 @@ use Rattle.std.proofs.Common.{ap, refl, sym, ◌∙◌}
 use Rattle.cachecore.specs.Core.{Core}
 use Rattle.pc_types.specs.Limits.{Sizes}
 use Rattle.held.proofs.Failures.{none_told}
+use Rattle.held.proofs.Rooms.{room_first}
 use Rattle.tests_held.proofs.Firsts.{first_zeros, fresh_as, sizes_of}
 use Rattle.tests_held.proofs.trail_tests.over_full_trail.Goals as goal
 
@@ -17,6 +18,7 @@ by_two_seats-requires-clause-state g c = record {
   counted = refl;
   told = none_told c.in-Ok.opened.core.state c.in-Ok.opened.errors (ap (λ (x : Core). x.state.files) c.in-Ok.ensures.core)
       c.in-Ok.ensures.board.1;
+  room = room_first _ c.in-Ok.opened.log c.in-Ok.ensures.log.1 refl;
 }
 
 pub by_two_seats-requires-clause-fresh : goal.by_two_seats-requires-clause-fresh

@@ -9,6 +9,7 @@ ghosts-stops_over-B-Naming g a = record {
   board = a.parts.board;
   sizes = a.parts.geometry;
   seats = vec_len a.seats + 1;
+  whole = a.parts.held.log.room;
   blocks = a.parts.deeds.blocks;
 }
 

@@ -1,4 +1,4 @@
-use Rattle.std.proofs.Common.{refl}
+use Rattle.std.proofs.Common.{refl, sym}
 use Rattle.machine.specs.declared.event.Event.TheVariants as event
 use Rattle.machine.specs.declared.event.Reply.TheVariants as reply
 use Rattle.held.proofs.Holds.{bare}
@@ -8,10 +8,10 @@ use Rattle.held.proofs.state.Held.age.Goals as goal
 pub invariant_of-self-2 : goal.invariant_of-self-2
 invariant_of-self-2 g c =
     let m =
-    (bare _ _ _ _ _
+    (bare _ _ _ _ _ _
     (record { log = c.self.inside.log; core = c.self.inside.core; errors = c.self.inside.recorder })
     (record { log = c.enter-slip.new.self; core = c.age-count.new.self; errors = c.self.inside.recorder })
     c.args.seat.now c.enter-slip.new.seat c.enter-slip.result c.self.invariant.0
-    event.Age (reply.Aged c.age-count.result) (reply.Aged c.age-count.result) refl refl c.in_ok-check_room.ensures.room
+    event.Age (reply.Aged c.age-count.result) (reply.Aged c.age-count.result) refl refl (sym c.if-not-has_room.ensures)
     c.age-count.ensures.step c.age-count.ensures.lists refl c.enter-slip.ensures.entered c.enter-slip.ensures.room refl) in
     (m.1, on_quiet m.0 c.self.invariant.0.0 c.self.invariant.1 (λ kind end same. absurd cc) refl)

@@ -8,6 +8,6 @@ pub invariant_of-result : goal.invariant_of-result
 invariant_of-result g c =
     let history = ap (λ (h : HeldSeen). h.log.history) c.opened.view_is ∙ c.requires.fresh.0 in
     let core = ap (λ (h : HeldSeen). h.core.state) c.opened.view_is ∙ c.requires.fresh.1 in (
-      (c.opened.invariant, subst (IsLocked _ _ _ _ _) (sym c.opened.view_is) c.requires.locked),
+      (c.opened.invariant, subst (IsLocked _ _ _ _ _ _) (sym c.opened.view_is) c.requires.locked),
       opens_tied _ _ _ _ _ _ _ history core c.requires.desk c.requires.count c.requires.first,
     )

@@ -1,4 +1,4 @@
-use Rattle.std.proofs.Common.{refl}
+use Rattle.std.proofs.Common.{refl, sym}
 use Rattle.machine.specs.declared.event.Event.TheVariants as event
 use Rattle.cachecore.specs.Replies.{sized}
 use Rattle.held.proofs.Replies.{bare_sized, quiet_sized}
@@ -9,10 +9,10 @@ use Rattle.held.proofs.state.Held.size.Goals as goal
 pub invariant_of-self-2 : goal.invariant_of-self-2
 invariant_of-self-2 g c =
     let m =
-    (bare _ _ _ _ _
+    (bare _ _ _ _ _ _
     (record { log = c.self.inside.log; core = c.self.inside.core; errors = c.self.inside.recorder })
     (record { log = c.enter-slip.new.self; core = c.self.inside.core; errors = c.self.inside.recorder })
     c.args.seat.now c.enter-slip.new.seat c.enter-slip.result c.self.invariant.0
-    (event.Size c.args.handle) (sized c.size-answer.result) c.of_size.result refl (bare_sized c.size-answer.result) c.in_ok-check_room.ensures.room
+    (event.Size c.args.handle) (sized c.size-answer.result) c.of_size.result refl (bare_sized c.size-answer.result) (sym c.if-not-has_room.ensures)
     c.size-answer.ensures.step refl c.of_size.ensures c.enter-slip.ensures.entered c.enter-slip.ensures.room refl) in
     (m.1, on_quiet m.0 c.self.invariant.0.0 c.self.invariant.1 (λ kind end same. absurd cc) (quiet_sized c.size-answer.result))

@@ -1,6 +1,7 @@
-use Rattle.std.proofs.Common.{ap, rules}
+use Rattle.std.proofs.Common.{ap, refl, rules}
 use Rattle.cachecore.specs.Core.{Core}
 use Rattle.held.proofs.Failures.{none_told}
+use Rattle.held.proofs.Rooms.{room_first}
 use Rattle.shared.proofs.Serving.{idle_first}
 use Rattle.shared.proofs.cache.Parts.make.Goals as goal
 
@@ -17,4 +18,5 @@ returns-in-Ok-new-clause-state g c = record {
   counted = search rules;
   told = none_told c.in-Ok-new.held.core.state c.in-Ok-new.held.errors
       (ap (λ (x : Core). x.state.files) c.in-Ok-new.ensures.core) c.in-Ok-new.ensures.board.1;
+  room = room_first _ c.in-Ok-new.held.log c.in-Ok-new.ensures.log.1 refl;
 }

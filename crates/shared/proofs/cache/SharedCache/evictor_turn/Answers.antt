@@ -1,10 +1,10 @@
 use Rattle.std.proofs.Common.{◌∙◌, subst}
 use Rattle.std.specs.Prelude.{if◌then◌else◌}
 use Rattle.held.proofs.Seats.{goes_on, only_any}
-use Rattle.shared.specs.Own.{IsEviction, IsRoomEvent}
+use Rattle.shared.specs.Own.{IsEviction}
 use Rattle.shared.specs.Workers.{LetsGo}
 use Rattle.shared.proofs.Letting.{last_gone, more_gone, shown_gone}
-use Rattle.shared.proofs.Making.{denied_on}
+use Rattle.shared.proofs.Making.{full_for_on}
 use Rattle.shared.proofs.Owning.{eviction_on}
 use Rattle.shared.proofs.cache.SharedCache.evictor_turn.Goals as goal
 
@@ -53,5 +53,5 @@ pub returns-in-Err-clause-denied : goal.returns-in-Err-clause-denied
 returns-in-Err-clause-denied g c =
     let first = c.args.worker.now.seat in
     let seat = c.has_spare.new.seat in
-    denied_on IsRoomEvent IsRoomEvent first seat c.evict_one.new.seat c.in-Err.denied (λ e x. x)
+    full_for_on g.B.Naming.sizes g.B.Naming.name g.B.Naming.whole IsEviction first seat c.evict_one.new.seat c.in-Err.denied
     (goes_on first c.pages.worker.seat seat c.pages.invariant.goes c.has_spare.ensures.goes) c.in-Err.ensures.denied

@@ -3,7 +3,7 @@ use Rattle.shared.proofs.Settling.{other_on, settles_on}
 use Rattle.std.proofs.lemmas.Result.{IfErr-weaker}
 use Rattle.shared.specs.Denials.{IsDenied}
 use Rattle.shared.specs.Own.{IsHelp}
-use Rattle.shared.proofs.Making.{help_on}
+use Rattle.shared.proofs.Making.{help_on, help_room}
 use Rattle.shared.proofs.cache.SharedCache.fill.Goals as goal
 
 pub returns-clause-only : goal.returns-clause-only
@@ -19,12 +19,17 @@ returns-clause-page g c =
 pub returns-clause-denied : goal.returns-clause-denied
 returns-clause-denied g c =
     let h = c.args.span.handle in
-    IfErr-weaker c.fill_once.result (IsDenied (IsHelp h) c.make_way.new.seat c.fill_once.new.seat)
-    (IsDenied (IsHelp h) c.args.seat.now c.fill_once.new.seat)
-    (λ d q. help_on h c.args.seat.now c.make_way.new.seat c.fill_once.new.seat d c.make_way.ensures.goes q)
+    IfErr-weaker c.fill_once.result (IsDenied g.B.Naming.sizes g.B.Naming.name g.B.Naming.whole (IsHelp h) c.make_way.new.seat c.fill_once.new.seat)
+    (IsDenied g.B.Naming.sizes g.B.Naming.name g.B.Naming.whole (IsHelp h) c.args.seat.now c.fill_once.new.seat)
+    (λ d q. help_on g.B.Naming.sizes g.B.Naming.name g.B.Naming.whole h c.args.seat.now c.make_way.new.seat c.fill_once.new.seat d c.make_way.ensures.goes q)
     c.fill_once.ensures.denied
 
 pub returns-clause-settled : goal.returns-clause-settled
 returns-clause-settled g c =
     settles_on g.B.Naming.name c.args.seat.now c.make_way.new.seat c.fill_once.new.seat
     c.in_default.ensures.settled c.fill_once.ensures.settled
+
+pub returns-in-Err-clause-denied : goal.returns-in-Err-clause-denied
+returns-in-Err-clause-denied g c =
+    help_room g.B.Naming.sizes g.B.Naming.name g.B.Naming.whole c.args.span.handle c.args.seat.now c.make_way.new.seat
+    c.in-Err.denied c.in-Err.ensures.denied

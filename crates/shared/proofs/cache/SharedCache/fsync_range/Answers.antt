@@ -18,17 +18,17 @@ use Rattle.shared.proofs.cache.SharedCache.fsync_range.Goals as goal
 
 pub returns-in-Err-sync_pages-clause-denied : goal.returns-in-Err-sync_pages-clause-denied
 returns-in-Err-sync_pages-clause-denied g c own here =
-    sync_denied g.B.Naming.sizes c.args.self.now.name c.args.handle.now.number c.args.first c.args.last c.args.seat.now c.sync_pages.new.seat
+    sync_denied g.B.Naming.whole g.B.Naming.sizes c.args.self.now.name c.args.handle.now.number c.args.first c.args.last c.args.seat.now c.sync_pages.new.seat
     c.args.handle.now.pass c.sync_pages.new.pass c.in-Err-sync_pages.denied
     (c.in-Err-sync_pages.ensures.kept ∙ ap (λ (h : HandleSeen). h.pass) c.handle.view_is)
-    (subst (λ (n : HandleId). IsSyncDenied g.B.Naming.sizes c.args.self.now.name n c.args.first c.args.last c.args.seat.now c.sync_pages.new.seat
+    (subst (λ (n : HandleId). IsSyncDenied g.B.Naming.sizes c.args.self.now.name g.B.Naming.whole n c.args.first c.args.last c.args.seat.now c.sync_pages.new.seat
     c.in-Err-sync_pages.denied) (ap (λ (h : HandleSeen). h.number) c.handle.view_is)
-    (subst (λ n. IsSyncDenied g.B.Naming.sizes n c.handle.inside.number c.args.first c.args.last c.args.seat.now
+    (subst (λ n. IsSyncDenied g.B.Naming.sizes n g.B.Naming.whole c.handle.inside.number c.args.first c.args.last c.args.seat.now
     c.sync_pages.new.seat c.in-Err-sync_pages.denied) (sym c.args.self.now.named) c.in-Err-sync_pages.ensures.denied))
 
 pub returns-in-Some-clause-denied : goal.returns-in-Some-clause-denied
 returns-in-Some-clause-denied g c own here =
-    fsync_failed g.B.Naming.sizes c.args.self.now.name _ c.args.handle.now c.args.first c.args.last c.in-Ok.synced.failed
+    fsync_failed g.B.Naming.whole g.B.Naming.sizes c.args.self.now.name _ c.args.handle.now c.args.first c.args.last c.in-Ok.synced.failed
     c.in-Some.code c.args.seat.now c.sync_pages.new.seat c.in-Ok.synced.slip c.sync_pages.new.pass
     c.report_failed.new.handle.pass c.report_failed.result c.handle.view_is c.in-Ok.ensures.ended c.in-Some.is
     c.sync_pages.ensures.level
@@ -37,7 +37,7 @@ returns-in-Some-clause-denied g c own here =
 
 pub returns-in-Ok-flushed-clause-denied : goal.returns-in-Ok-flushed-clause-denied
 returns-in-Ok-flushed-clause-denied g c own here =
-    fsync_denied c.report.result g.B.Naming.sizes c.args.self.now.name _ c.args.handle.now c.args.first c.args.last
+    fsync_denied g.B.Naming.whole c.report.result g.B.Naming.sizes c.args.self.now.name _ c.args.handle.now c.args.first c.args.last
     c.in-Ok.synced.failed c.args.seat.now c.sync_pages.new.seat c.in-Ok-flushed.durable c.in-Ok.synced.slip
     c.sync_pages.new.pass c.report.new.handle.pass c.handle.view_is c.in-Ok.ensures.ended c.in_default-failed.is
     c.in-Ok-flushed.ensures.slip c.sync_pages.ensures.level
@@ -69,10 +69,10 @@ returns-in-Err-clause-stands g c =
 
 pub returns-in-Err-sync_pages-clause-stands : goal.returns-in-Err-sync_pages-clause-stands
 returns-in-Err-sync_pages-clause-stands g c =
-    subst (λ (n : HandleId). IsNotBegun n c.args.first c.args.last c.args.seat.now c.sync_pages.new.seat
+    subst (λ (n : HandleId). IsNotBegun g.B.Naming.sizes c.args.self.now.name g.B.Naming.whole n c.args.first c.args.last c.args.seat.now c.sync_pages.new.seat
     c.in-Err-sync_pages.denied ⊎ IsFinal g.B.Naming.sizes c.args.self.now.name c.sync_pages.new.seat
     c.in-Err-sync_pages.denied) (ap (λ (h : HandleSeen). h.number) c.handle.view_is)
-    (subst (λ n. IsNotBegun c.handle.inside.number c.args.first c.args.last c.args.seat.now c.sync_pages.new.seat
+    (subst (λ n. IsNotBegun g.B.Naming.sizes n g.B.Naming.whole c.handle.inside.number c.args.first c.args.last c.args.seat.now c.sync_pages.new.seat
     c.in-Err-sync_pages.denied ⊎ IsFinal g.B.Naming.sizes n c.sync_pages.new.seat c.in-Err-sync_pages.denied)
     (sym c.args.self.now.named) c.in-Err-sync_pages.ensures.stands)
 
@@ -85,7 +85,7 @@ pub returns-in-Ok-flushed-clause-stands : goal.returns-in-Ok-flushed-clause-stan
 returns-in-Ok-flushed-clause-stands g c =
     let h = c.args.handle.now.number in
     IfErr-weaker c.report.result (Reports None c.in-Ok-flushed.durable c.sync_pages.new.pass c.report.new.handle.pass)
-    (λ d. IsNotBegun h c.args.first c.args.last c.args.seat.now c.sync_pages.new.seat d
+    (λ d. IsNotBegun g.B.Naming.sizes c.args.self.now.name g.B.Naming.whole h c.args.first c.args.last c.args.seat.now c.sync_pages.new.seat d
     ⊎ IsFinal g.B.Naming.sizes c.args.self.now.name c.sync_pages.new.seat d)
     (λ d r. inr (report_final g.B.Naming.sizes c.args.self.now.name c.sync_pages.new.seat _ _ _ _ d r)) c.report.ensures.failed
 

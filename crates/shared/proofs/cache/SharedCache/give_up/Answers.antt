@@ -1,9 +1,7 @@
-use Rattle.std.proofs.Common.{◌≡◌, ◌∙◌, ap, false, inr, rules, true}
-use Rattle.std.specs.FinMap as map
+use Rattle.std.proofs.Common.{◌≡◌, false, inr, rules, true}
 use Rattle.std.specs.Prelude.{is_some}
-use Rattle.held.specs.Shown.{HeldSeen}
 use Rattle.shared.proofs.Owning.{only_event}
-use Rattle.shared.proofs.Syncing.{dropped_by, dropped_refused, gone_before}
+use Rattle.shared.proofs.Syncing.{dropped_by, dropped_refused, gone_by}
 use Rattle.shared.proofs.cache.SharedCache.give_up.Goals as goal
 
 pub returns-in_default-clause-dropped : goal.returns-in_default-clause-dropped
@@ -13,23 +11,17 @@ returns-in_default-clause-dropped g c =
 pub returns-then-is_some-clause-dropped : goal.returns-then-is_some-clause-dropped
 returns-then-is_some-clause-dropped g c =
     let is : is_some c.in-Err.other.slip ≡ true = search rules in
-    dropped_refused g.B.Naming.sizes g.B.Naming.name c.args.sync c.deref_mut.result.now c.sync_drop.new.self c.args.seat.now
+    dropped_refused g.B.Naming.whole g.B.Naming.sizes g.B.Naming.name c.args.sync c.deref_mut.result.now c.sync_drop.new.self c.args.seat.now
     c.sync_drop.new.seat c.in-Err.other c.args.denied c.in-Err.ensures.denied is
 
 -- the seat saw that the sync is in progress no longer
 pub returns-clause-dropped : goal.returns-clause-dropped
 returns-clause-dropped g c =
     let none : is_some c.in-Err.other.slip ≡ false = search rules in
-    let same : c.deref_mut-2.result.now ≡ c.sync_drop.new.self = search (rules, c.deref_mut-2.ensures.value) in
     inr (
       c.without_slip.ensures,
-      record {
-        state = c.deref_mut-2.result.now.core.state;
-        leaves = c.show.ensures.legal;
-        gone = ap (λ (h : HeldSeen). map.get h.core.state.syncs c.args.sync.0) same
-            ∙ gone_before c.args.sync c.deref_mut.result.now c.sync_drop.new.self c.args.seat.now c.sync_drop.new.seat
-            c.in-Err.other c.in-Err.ensures.denied none c.in-Err.ensures.in_progress;
-      },
+      gone_by g.B.Naming.sizes g.B.Naming.name g.B.Naming.whole c.args.sync c.deref_mut.result.now c.sync_drop.new.self c.args.seat.now c.sync_drop.new.seat
+          c.in-Err.other c.in-Err.ensures.denied none c.in-Err.ensures.in_progress,
     )
 
 pub returns-in_default-clause-only : goal.returns-in_default-clause-only
