@@ -12,7 +12,8 @@ trap 'rm -rf "$folder"' EXIT
 size=12388
 for ((number = 0; number < size / 38 + 1; number++)); do
     printf 'line %5d of a file that was there \n\n' "$number"
-done | head -c "$size" > "$folder/file"
+done > "$folder/lines"
+head -c "$size" "$folder/lines" > "$folder/file"
 cp "$folder/file" "$folder/wanted"
 printf HELLO | dd of="$folder/wanted" bs=1 seek=8190 conv=notrunc status=none
 
