@@ -194,7 +194,7 @@ fn refused_by(alloc: Global, sizes: &Geometry, catalog: Catalog) -> Result<(u64,
         Err((refusal, catalog, device)) => {
             drop(catalog);
             drop(device);
-            Err(Odd::Refused(refusal))
+            Err(Odd::from(refusal))
         }
         Ok(solo) => {
             drop(solo);
@@ -246,8 +246,8 @@ fn many_files(alloc: Global, sizes: &Geometry) -> Result<Catalog, Odd> {
 fn are_numbered(solo: &mut Solo<MemDevice>) -> Result<(), Odd> {
     for file in 0..64u8 {
         let bytes = [file; 3];
-        let (want, _) = bytes.split_at(usize::from(file % 4));
-        reads(solo, u64::from(file), 0, want)?;
+        let len = usize::from(file % 4);
+        reads(solo, u64::from(file), 0, &bytes[..len])?;
     }
     Ok(())
 }

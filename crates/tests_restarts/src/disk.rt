@@ -20,8 +20,9 @@ pub fn geometry() -> Result<Geometry, Refusal> {
 /// A device with these bytes from its first block on.
 pub fn disk(alloc: Global, text: &[u8; 64]) -> Result<MemDevice, Odd> {
     let mut device = MemDevice::new(alloc, 16, 16)?;
-    for (number, block) in text.chunks_exact(PAGE).enumerate() {
-        if !put(&mut device, number as u64, block) {
+    for number in 0..4 {
+        let first = number as usize * PAGE;
+        if !put(&mut device, number, &text[first..first + PAGE]) {
             return Err(Odd::Answer);
         }
     }
@@ -29,18 +30,18 @@ pub fn disk(alloc: Global, text: &[u8; 64]) -> Result<MemDevice, Odd> {
 }
 
 /// Writes a block, and answers whether that went well.
-fn put<D: BlockDevice>(device: &mut D, block: u64, bytes: &[u8]) -> bool {
-    block < device.blocks()
+fn put<D: BlockDevice>(device: &mut D, block: u32, bytes: &[u8]) -> bool {
+    u64::from(block) < device.blocks()
         && bytes.len() as u64 == device.block_size()
-        && device.write(BlockNo(block as u32), bytes).is_ok()
+        && device.write(BlockNo(block), bytes).is_ok()
 }
 
 /// What a block has.
-pub fn block<D: BlockDevice>(device: &mut D, block: u64) -> Result<[u8; PAGE], Odd> {
+pub fn block<D: BlockDevice>(device: &mut D, block: u32) -> Result<[u8; PAGE], Odd> {
     let mut out = [0xee; PAGE];
-    if block >= device.blocks()
+    if u64::from(block) >= device.blocks()
         || device.block_size() != 16
-        || device.read(BlockNo(block as u32), &mut out).is_err()
+        || device.read(BlockNo(block), &mut out).is_err()
     {
         return Err(Odd::Answer);
     }
@@ -50,9 +51,9 @@ pub fn block<D: BlockDevice>(device: &mut D, block: u64) -> Result<[u8; PAGE], O
 /// What blocks 0 to 3 have.
 pub fn text<D: BlockDevice>(device: &mut D) -> Result<[u8; 64], Odd> {
     let mut all = [0; 64];
-    for (number, place) in all.chunks_exact_mut(PAGE).enumerate() {
-        let bytes = block(device, number as u64)?;
-        place.copy_from_slice(&bytes);
+    for number in 0..4 {
+        let first = number as usize * PAGE;
+        all[first..first + PAGE].copy_from_slice(&block(device, number)?);
     }
     Ok(all)
 }
@@ -99,7 +100,7 @@ pub fn service<D: BlockDevice>(
             // each by a call, since the check is slow where they go out of scope
             drop(catalog);
             drop(device);
-            Err(Odd::Refused(refusal))
+            Err(Odd::from(refusal))
         }
     }
 }

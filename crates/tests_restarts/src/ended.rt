@@ -75,7 +75,7 @@ impl Desk {
             Ok(catalog) => Ok((catalog, device)),
             Err(refusal) => {
                 drop(device);
-                Err(Odd::Refused(refusal))
+                Err(Odd::from(refusal))
             }
         }
     }

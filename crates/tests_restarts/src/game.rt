@@ -168,7 +168,7 @@ impl Game {
         }
         match self.files.push(Vec::new(self.alloc)) {
             Ok(()) => Ok(()),
-            Err(_) => Err(Odd::Refused(Refusal::Memory)),
+            Err(_) => Err(Odd::from(Refusal::Memory)),
         }
     }
 
@@ -195,9 +195,10 @@ impl Game {
 
     /// Writes bytes anywhere, as far as the file may go.
     fn write<D: BlockDevice>(&mut self, solo: &mut Solo<D>, file: usize) -> Result<(), Odd> {
-        let offset = self.chance.below(PAGES * self.page);
+        let end = PAGES * self.page;
+        let offset = self.chance.below(end);
         let mut bytes = [0; MOST];
-        let count = self.count().min((PAGES * self.page - offset) as usize);
+        let count = self.count().min((end - offset) as usize);
         self.chance.fill(&mut bytes[..count]);
         if pwrite(solo, file as u64, offset, &bytes[..count])? != count as u64 {
             return Err(Odd::Answer);

@@ -6,8 +6,8 @@ use std::alloc::AllocError;
 /// What went wrong in a round or a row.
 #[derive(Clone, Copy, PartialEq, Eq, Debug)]
 pub enum Odd {
-    /// A call was refused that was to go well.
-    Refused(Refusal),
+    /// A call was refused that was to go well, by the refusal of this number.
+    Refused(u64),
     /// A read of this file gave other bytes than the plain file has.
     Bytes(u64),
     /// This file is not as long as the plain file.
@@ -18,12 +18,12 @@ pub enum Odd {
 
 impl From<Refusal> for Odd {
     fn from(refusal: Refusal) -> Odd {
-        Odd::Refused(refusal)
+        Odd::Refused(refusal.number())
     }
 }
 
 impl From<AllocError> for Odd {
     fn from(_error: AllocError) -> Odd {
-        Odd::Refused(Refusal::Memory)
+        Odd::from(Refusal::Memory)
     }
 }

@@ -32,7 +32,7 @@ fn life<D: BlockDevice>(
             // each by a call, since the check is slow where they go out of scope
             drop(catalog);
             drop(device);
-            Err(Odd::Refused(refusal))
+            Err(Odd::from(refusal))
         }
     }
 }
