@@ -2,9 +2,8 @@
 
 ghost use Rattle.std.specs.Prelude.{◌≡◌, [], IfOk, false, length, replicate, true};
 ghost use Rattle.held.specs.Keeps.{IsLocked};
-ghost use Rattle.machine.specs.History.{no_files};
-ghost use Rattle.runs.specs.Runs.{IsBlank};
-ghost use Rattle.trail.specs.Honest.{world_over};
+ghost use Rattle.machine.specs.Catalogs.{IsCatalog, adopted};
+ghost use Rattle.trail.specs.Honest.{MayBegin};
 
 use crate::rounds::ROUNDS;
 use crate::trails::SMALL;
@@ -117,10 +116,11 @@ fn time_named<B: Naming>(
     mut own: Seat,
 ) -> Result<Best, Fault>
     requires state { IsLocked B.name B.table B.board B.sizes B.seats B.whole opened }
-    requires fresh { (opened.log.history ≡ []) × (opened.core.state ≡ no_files B.sizes B.name) }
+    requires fresh { (opened.log.history ≡ []) × (opened.core.state ≡ adopted B.sizes B.name B.files) }
+    requires files { IsCatalog B.sizes B.files }
     requires deeds { (deeds.table ≡ B.deeds) × (deeds.told ≡ B.told) × (deeds.blocks ≡ B.blocks) }
     requires count { length B.blocks ≡ B.sizes.blocks }
-    requires first { B.told ≡ true → IsBlank (world_over B.sizes B.name B.blocks) }
+    requires first { B.told ≡ true → MayBegin B.files B.sizes B.name B.blocks }
     requires own { own.table ≡ B.table }
 {
     let (desk, side) = deeds.named::<B>();

@@ -53,7 +53,7 @@ pub drop_back : (old new : Core) (n : SyncId) (a : Result Unit Refusal)
 drop_back old new n a step lists x is =
     drop_core_back old new n x (subst (λ b. Step old.state (event.SyncDrop n) (sync_dropped b) new.state) is step) lists
 
-module _ (old : LogSeen) (core next : State) (i : IsHeld old core) (n : SyncId) (a : Result Unit Refusal)
+module _ {files : Catalog} (old : LogSeen) (core next : State) (i : IsHeld files old core) (n : SyncId) (a : Result Unit Refusal)
     (s : Step core (event.SyncDrop n) (sync_dropped a) next) where
   pub drop_room : (room : Bool) → room ≡ fits_beside old.room core.sizes.page (reserved core) 1 0
       → ((x : Refusal) → a ≡ Err x → room ≡ true) → has_room old.room (reserved core) core (event.SyncDrop n) ≡ true
@@ -75,7 +75,7 @@ module _ (old : LogSeen) (core next : State) (i : IsHeld old core) (n : SyncId) 
     | inr k ↦ sym (room_is old core 1 0 (event.SyncDrop n) room is k.0 refl) ∙ none
   ]
 
-pub drop_fits : (old : LogSeen) (core : State) (i : IsHeld old core) (n : SyncId) (a : Result Unit Refusal) (next : State)
+pub drop_fits : {files : Catalog} (old : LogSeen) (core : State) (i : IsHeld files old core) (n : SyncId) (a : Result Unit Refusal) (next : State)
     → Step core (event.SyncDrop n) (sync_dropped a) next → (refused room : Bool)
     → room ≡ fits_beside old.room core.sizes.page (reserved core) 1 0 → refused ≡ is_err a
     → (refused ≡ true → room ≡ true) → has_room old.room (reserved core) core (event.SyncDrop n) ≡ true

@@ -23,6 +23,7 @@ use Rattle.machine.specs.ListChanges.{lists_after}
 use Rattle.machine.specs.State.{State}
 use Rattle.atomic_table.specs.Seated.{TableId}
 use Rattle.pc_types.specs.Limits.{Sizes}
+use Rattle.machine.specs.Catalogs.{Catalog}
 use Rattle.machine.specs.Step.{Step}
 use Rattle.machine.specs.Tests.{fits}
 use Rattle.machine.proofs.steps.Answered.{is_quiet}
@@ -123,7 +124,7 @@ none_refused need a h none x is = elim h [
 ]
 
 -- so there is room for it, but where it is refused without room
-module _ (old : LogSeen) (core : State) (i : IsHeld old core) (e : Event) (a : Result Ended RefusedEnd)
+module _ {files : Catalog} (old : LogSeen) (core : State) (i : IsHeld files old core) (e : Event) (a : Result Ended RefusedEnd)
     (bytes : byte_need core e ≡ 0) (needs : EndNeeds (event_need core e) a) where
   pub end_has_room : (room : Bool) → room ≡ fits_beside old.room core.sizes.page (reserved core) 1 0
       → ((x : RefusedEnd) → a ≡ Err x → room ≡ true) → has_room old.room (reserved core) core e ≡ true
@@ -150,7 +151,7 @@ refused_by (Ok y) refused is said = absurd (let e : true ≡ false = sym said �
 refused_by (Err x) refused is said = (x, refl)
 
 -- so there is room for an end past that test
-pub end_fits : (old : LogSeen) (core : State) (i : IsHeld old core) (kind : Kind) (e : End) (a : Result Ended RefusedEnd)
+pub end_fits : {files : Catalog} (old : LogSeen) (core : State) (i : IsHeld files old core) (kind : Kind) (e : End) (a : Result Ended RefusedEnd)
     (new : State) → Step core (event.End kind e) (ended_as kind a) new → byte_need core (event.End kind e) ≡ 0
     → (refused room : Bool) → room ≡ fits_beside old.room core.sizes.page (reserved core) 1 0 → refused ≡ is_err a
     → (refused ≡ true → room ≡ true) → has_room old.room (reserved core) core (event.End kind e) ≡ true
@@ -202,8 +203,8 @@ flush_event e (Ok (ended.Done b)) fit i =
     event.End Flush (record e { outcome = written_bare e.outcome (fit (ended.Done b) refl) i })
 flush_event e (Err x) fit i = event.End Flush (record e { outcome = twice e.outcome i })
 
-module _ (name : ℕ) (table board : TableId) (sizes : Sizes) (seats : ℕ) (whole : Room) (old new : HeldSeen) (before after : SeatSeen)
-    (slip : Slip) (i : Whole name table board sizes seats whole old) where
+module _ (name : ℕ) (table board : TableId) (files : Catalog) (sizes : Sizes) (seats : ℕ) (whole : Room) (old new : HeldSeen) (before after : SeatSeen)
+    (slip : Slip) (i : Whole name table board files sizes seats whole old) where
   pub flush_end_went : (e without : End) (a : Result Ended RefusedEnd) (r : Reply)
       → has_room old.log.room (reserved old.core.state) old.core.state (event.End Flush e) ≡ true → without ≡ end_with e []
       → Step old.core.state (event.End Flush e) (flush_ended a) new.core.state
@@ -211,7 +212,7 @@ module _ (name : ℕ) (table board : TableId) (sizes : Sizes) (seats : ℕ) (who
       → Entered (entry_with (record { seat = before.number; event = event.End Flush without; reply = r }) []) old.log new.log
       before after slip → new.log.room ≡ less old.log.room 0
       → Records old.core.state (event.End Flush e) (flush_ended a) old.errors new.errors
-      → Made (event.End Flush e) (flush_ended a) old new before after slip × Whole name table board sizes seats whole new
+      → Made (event.End Flush e) (flush_ended a) old new before after slip × Whole name table board files sizes seats whole new
   flush_end_went e without a r has none s lists is entered room errors =
       let entry : Entry = record { seat = before.number; event = event.End Flush without; reply = r } in
       let same : entry_with entry [] ≡ entry_of before.number (event.End Flush e) (flush_ended a) = (λ j. record {
@@ -220,7 +221,7 @@ module _ (name : ℕ) (table board : TableId) (sizes : Sizes) (seats : ℕ) (who
             ∙ flush_event e a (taken old.core.state Flush e a new.core.state s)) j;
         reply = (ap (λ x. reply_with x []) is ∙ bare_reply a) j;
       }) in
-      went name table board sizes seats whole old new before after slip i (event.End Flush e) (flush_ended a) _ 0 has
+      went name table board files sizes seats whole old new before after slip i (event.End Flush e) (flush_ended a) _ 0 has
       (none_needed _) same (none_in entry _ same) s lists entered room errors
 
 -- ---- what is recorded

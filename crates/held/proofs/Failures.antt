@@ -10,6 +10,7 @@ use Rattle.errboard.specs.Views.{files, recorded_of}
 use Rattle.errseq.specs.declared.recording.Recording.{Recording}
 use Rattle.held.specs.Entered.{Records}
 use Rattle.held.specs.Keeps.{AreTold}
+use Rattle.machine.specs.Catalogs.{Catalog, adopted}
 use Rattle.machine.specs.Changes.{after_write, ended, flush_failed}
 use Rattle.maps.specs.Maps.{change_at}
 use Rattle.machine.specs.Sound.{Sound}
@@ -20,12 +21,14 @@ use Rattle.machine.specs.declared.event.Event.{Event}
 use Rattle.machine.specs.declared.event.Event.TheVariants as event
 use Rattle.machine.specs.declared.event.Reply.{Reply}
 use Rattle.machine.specs.declared.event.Reply.TheVariants as reply
+use Rattle.machine.proofs.changes.Adopted.{adopted_file}
 use Rattle.machine.proofs.changes.StateLaws.{get_or-set}
 use Rattle.machine.proofs.sound.Lookups.{get_or-default}
 use Rattle.machine.proofs.steps.Answered.{is_quiet}
 use Rattle.machine.proofs.steps.Cases.{Cases, by_cases}
 use Rattle.machine.proofs.steps.Passed.{MayEnd}
 use Rattle.pc_types.specs.Kinds.{is_flush}
+use Rattle.pc_types.specs.Limits.{Sizes}
 use Rattle.pc_types.specs.declared.kind.Kind.TheVariants.{Flush}
 use Rattle.runs.proofs.events.Lookups.{cached_within}
 
@@ -213,11 +216,12 @@ told_on s t e r old new ok step records told =
     }
 
 -- nothing failed yet, and nothing is recorded
-pub none_told : (s : State) (e : RecorderSeen) → s.files ≡ [] → e.all ≡ replicate files [] → AreTold s e
-none_told s e none all = record {
+pub none_told : (standing : Catalog) (sizes : Sizes) (name : ℕ) (s : State) (e : RecorderSeen) → s ≡ adopted sizes name standing
+    → e.all ≡ replicate files [] → AreTold s e
+none_told standing sizes name s e first all = record {
   lists = ap length all ∙ length-replicate {A = List Recording} files [];
   counted = λ f. ap (λ l. length (recorded_of l f)) all ∙ empty files f
-      ∙ sym (ap (λ (fs : List File). (get_or fs f no_file).failures) none ∙ nobody f);
+      ∙ sym (ap (λ (t : State). (file_at t f).failures) first ∙ ap (λ (x : File). x.failures) (adopted_file sizes name standing f));
 }
   where
     empty : (n f : ℕ) → length (recorded_of (replicate n []) f) ≡ 0
@@ -228,7 +232,3 @@ none_told s e none all = record {
         nothing (suc f) = refl
     empty (suc n) zero = refl
     empty (suc n) (suc f) = empty n f
-
-    nobody : (f : ℕ) → (get_or [] f no_file).failures ≡ 0
-    nobody zero = refl
-    nobody (suc f) = refl

@@ -18,6 +18,7 @@ use Rattle.machine.specs.ListChanges.{lists_after}
 use Rattle.machine.specs.State.{State}
 use Rattle.atomic_table.specs.Seated.{TableId}
 use Rattle.pc_types.specs.Limits.{Sizes}
+use Rattle.machine.specs.Catalogs.{Catalog}
 use Rattle.machine.specs.Step.{Step}
 use Rattle.machine.specs.Tests.{fits, tests}
 use Rattle.trail.specs.Entries.{entry_with, reply_with, end_with, outcome_with, noted}
@@ -109,8 +110,8 @@ fill_small s f a new read bytes h got back size =
     least : (n m : ℕ) → n ≤ 0 → n ≤ m
     least n m h = omega arith
 
-module _ (name : ℕ) (table board : TableId) (sizes : Sizes) (seats : ℕ) (whole : Room) (old new : HeldSeen) (before after : SeatSeen)
-    (slip : Slip) (i : Whole name table board sizes seats whole old) where
+module _ (name : ℕ) (table board : TableId) (files : Catalog) (sizes : Sizes) (seats : ℕ) (whole : Room) (old new : HeldSeen) (before after : SeatSeen)
+    (slip : Slip) (i : Whole name table board files sizes seats whole old) where
   pub fill_end_went : (f : FinishedTask) (without : End) (a : Result Ended RefusedEnd) (r : Reply) (read : Bool)
       (bytes : List ℕ) → bytes ≡ bytes_read_in a read → read ≡ went_well f.outcome → EndGivesBack f a
       → length f.bytes ≡ old.core.state.sizes.page
@@ -122,13 +123,13 @@ module _ (name : ℕ) (table board : TableId) (sizes : Sizes) (seats : ℕ) (who
       → Entered (entry_with (record { seat = before.number; event = event.End Fill without; reply = r }) bytes) old.log
       new.log before after slip
       → new.log.room ≡ less old.log.room (length bytes) → new.errors ≡ old.errors
-      → Made (event.End Fill (end_of f)) (fill_ended a) old new before after slip × Whole name table board sizes seats whole new
+      → Made (event.End Fill (end_of f)) (fill_ended a) old new before after slip × Whole name table board files sizes seats whole new
   fill_end_went f without a r read bytes got well back size has none s lists is entered room errors =
       let fit : Fitting f a = taken old.core.state Fill (end_of f) a new.core.state s in
       let is_event : event.End Fill (end_with without bytes) ≡ noted (event.End Fill (end_of f)) (fill_ended a) =
       (λ j. event.End Fill (end_with (none j) (got j))) ∙ fill_event f a read back well fit in
       let replies : reply_with r bytes ≡ fill_ended a = (λ j. reply_with (is j) bytes) ∙ bare_reply a bytes in
-      went name table board sizes seats whole old new before after slip i (event.End Fill (end_of f)) (fill_ended a) _
+      went name table board files sizes seats whole old new before after slip i (event.End Fill (end_of f)) (fill_ended a) _
       (length bytes) has (fill_small old.core.state f a new.core.state read bytes s got back size)
       (λ j. record { seat = before.number; event = is_event j; reply = replies j })
       (fill_in before.number f a read bytes got back well fit) s lists entered room errors

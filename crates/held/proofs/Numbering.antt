@@ -9,7 +9,8 @@ use Rattle.machine.specs.declared.event.Event.TheVariants as event
 use Rattle.machine.specs.declared.event.Reply.{Reply}
 use Rattle.machine.specs.declared.event.Reply.TheVariants as reply
 use Rattle.machine.specs.Changes.{new_sync}
-use Rattle.machine.specs.History.{Leads, no_files}
+use Rattle.machine.specs.Catalogs.{adopted}
+use Rattle.machine.specs.History.{Leads}
 use Rattle.machine.specs.State.{State, Sync, bound_of}
 use Rattle.machine.specs.Step.{Step}
 use Rattle.machine.proofs.steps.Answered.{is_quiet}
@@ -197,6 +198,6 @@ stay m s (e ∷ es) to has fits leads own =
     (free s leads.0 m has e fits t own.0, stay m leads.0 es to (has_after m has e) (after s leads.0 m has e fits t own.0) leads.2 own.1)
 
 pub numbers_stay : NumbersStay
-numbers_stay sizes name history state legal m own =
-    stay m (no_files sizes name) history state (λ k. false) (record { used = λ k h. absurd cc; alone = λ i j h l. absurd cc })
-    legal own
+numbers_stay files sizes name history state legal m own =
+    stay m (adopted sizes name files) history state (λ k. false) (record { used = λ k h. absurd cc; alone = λ i j h l. absurd cc })
+    legal.1 own

@@ -23,17 +23,17 @@ use Rattle.machine.specs.declared.event.Event.{Event}
 use Rattle.machine.specs.declared.event.Event.TheVariants as event
 use Rattle.machine.specs.declared.event.Reply.{Reply}
 use Rattle.machine.specs.declared.event.Reply.TheVariants as reply
-use Rattle.machine.specs.History.{no_files}
+use Rattle.machine.specs.Catalogs.{adopted}
 use Rattle.machine.specs.Sound.{Sound}
 use Rattle.machine.specs.State.{State, Request}
 use Rattle.machine.specs.Step.{Step}
-use Rattle.machine.proofs.sound.Steps.{blank_sound}
+use Rattle.machine.proofs.sound.Steps.{histories_are_sound}
 use Rattle.pc_types.specs.Limits.{Sizes}
+use Rattle.machine.specs.Catalogs.{Catalog}
 use Rattle.pc_types.specs.declared.ids.HandleId.{HandleId}
 use Rattle.pc_types.specs.declared.ids.PageIndex.{PageIndex}
 use Rattle.pc_types.specs.declared.kind.Kind.{Kind}
 use Rattle.pc_types.specs.declared.kind.Kind.TheVariants.{Fill, Flush}
-use Rattle.runs.specs.Runs.{IsBlank}
 use Rattle.runs.proofs.moments.KeptRequests.{is_job}
 use Rattle.tied.specs.Tied.{IsTaskOf, IsTied}
 use Rattle.tied.proofs.Kept.{kept_back, kept_begun, kept_first, kept_home, kept_plain}
@@ -42,7 +42,7 @@ use Rattle.tied.proofs.Tied.{none_made}
 use Rattle.trail.specs.declared.entry.Entry.{Entry}
 use Rattle.trail.specs.Entries.{entry_of}
 use Rattle.trail.specs.History.{seatless}
-use Rattle.trail.specs.Honest.{end_made, world_over}
+use Rattle.trail.specs.Honest.{MayBegin, end_made}
 use Rattle.held.specs.declared.log.Slip.{Slip}
 use Rattle.held.specs.Entered.{Made}
 use Rattle.held.specs.Kept.{IsHeld}
@@ -51,8 +51,9 @@ use Rattle.held.specs.Started.{IsAtHome, fill_job, flush_job, given_out, sync_jo
 use Rattle.held.specs.Ends.{ended_as}
 use Rattle.held.proofs.InFlight.{goes}
 
-pub sound_in : (log : LogSeen) (core : State) → IsHeld log core → Sound core
-sound_in log core i = blank_sound core.sizes core.name (map seatless log.history) core i.history
+pub sound_in : (files : Catalog) (log : LogSeen) (core : State) → IsHeld files log core → Sound core
+sound_in files log core i =
+    histories_are_sound files core.sizes core.name (map seatless log.history) core i.history.0 i.history.1
 
 -- ---- what begins
 
@@ -104,9 +105,9 @@ made_by Flush end (ended.Dropped b) = refl
 made_by Flush end (ended.Failed c b) = refl
 made_by Flush end (ended.Done b) = refl
 
-module _ (told : Bool) (sizes : Sizes) (name : ℕ) (blocks : List (List ℕ)) (old new : HeldSeen) (places : List Place)
-    (held : IsHeld old.log old.core.state)
-    (i : IsTied told sizes name blocks old.log.history old.core.state places) where
+module _ (told : Bool) (files : Catalog) (sizes : Sizes) (name : ℕ) (blocks : List (List ℕ)) (old new : HeldSeen) (places : List Place)
+    (held : IsHeld files old.log old.core.state)
+    (i : IsTied told files sizes name blocks old.log.history old.core.state places) where
   abbrev core : State
   core = old.core.state
 
@@ -114,26 +115,26 @@ module _ (told : Bool) (sizes : Sizes) (name : ℕ) (blocks : List (List ℕ)) (
   next = new.core.state
 
   abbrev Tied : List Entry → List Place → Type 0
-  Tied history places = IsTied told sizes name blocks history next places
+  Tied history places = IsTied told files sizes name blocks history next places
 
   sound : Sound core
-  sound = sound_in old.log core held
+  sound = sound_in files old.log core held
 
   -- the deed of what begins is at home
   pub begins_home : (e : Event) (r : Reply) → Step core e r next → (o : Option Task) → Begins core next r o
       → IsAtHome places o
   begins_home e r step None b = tt
   begins_home e r step (Some job) b =
-      kept_home told sizes name blocks old.log.history core places sound i 0 e (record { 0 = job.serial }) next
+      kept_home told files sizes name blocks old.log.history core places sound i 0 e (record { 0 = job.serial }) next
       (subst (λ x. Step core e x next) b.0 step) b.2.0 b.2.1 job b.2.2 b.1
 
   begun : (seat : ℕ) (e : Event) (r : Reply) → NoEnd e → Step core e r next → (o : Option Task) → Begins core next r o
       → Tied (old.log.history ++ entry_of seat e r ∷ []) (given_out places o)
   begun seat e r plain step None b =
-      kept_plain told sizes name blocks old.log.history core places sound i seat e r next (none_made e r plain) b step
+      kept_plain told files sizes name blocks old.log.history core places sound i seat e r next (none_made e r plain) b step
   begun seat e r plain step (Some job) b =
       subst (λ x. Tied (old.log.history ++ entry_of seat e x ∷ []) (given_out places (Some job))) (sym b.0)
-      (kept_begun told sizes name blocks old.log.history core places sound i seat e (record { 0 = job.serial }) next
+      (kept_begun told files sizes name blocks old.log.history core places sound i seat e (record { 0 = job.serial }) next
       (subst (λ x. Step core e x next) b.0 step) b.2.0 b.2.1 job b.2.2 b.1)
 
   went_over : (seat : ℕ) (kind : Kind) (a : Result Ended RefusedEnd) (finished : FinishedTask) (after : List Place)
@@ -141,7 +142,7 @@ module _ (told : Bool) (sizes : Sizes) (name : ℕ) (blocks : List (List ℕ)) (
       → Settles told places finished after
       → Tied (old.log.history ++ entry_of seat (event.End kind (end_of finished)) (ended_as kind a) ∷ []) after
   went_over seat kind (Ok b) finished after is step s =
-      kept_back told sizes name blocks old.log.history core places sound i seat kind (end_of finished)
+      kept_back told files sizes name blocks old.log.history core places sound i seat kind (end_of finished)
       (ended_as kind (Ok b)) next (made_by kind (end_of finished) b) step finished after s refl
   went_over seat kind (Err x) finished after is step s =
       absurd (goes core places after told finished i.covered s kind is (Err x) next step x refl)
@@ -176,36 +177,36 @@ module _ (told : Bool) (sizes : Sizes) (name : ℕ) (blocks : List (List ℕ)) (
 
 -- ---- the same, with what was made first
 
-module _ {e : Event} {r : Reply} {old new : HeldSeen} {before after : SeatSeen} {slip : Slip} {told : Bool} {sizes : Sizes}
+module _ {e : Event} {r : Reply} {old new : HeldSeen} {before after : SeatSeen} {slip : Slip} {told : Bool} {files : Catalog} {sizes : Sizes}
     {name : ℕ} {blocks : List (List ℕ)} {places : List Place} (m : Made e r old new before after slip)
-    (held : IsHeld old.log old.core.state)
-    (i : IsTied told sizes name blocks old.log.history old.core.state places) where
+    (held : IsHeld files old.log old.core.state)
+    (i : IsTied told files sizes name blocks old.log.history old.core.state places) where
   pub on_quiet : NoEnd e → is_job r ≡ false
-      → IsTied told sizes name blocks new.log.history new.core.state places
-  on_quiet plain quiet = tied_quiet told sizes name blocks old new places held i before after slip e r plain quiet m
+      → IsTied told files sizes name blocks new.log.history new.core.state places
+  on_quiet plain quiet = tied_quiet told files sizes name blocks old new places held i before after slip e r plain quiet m
 
   pub on_started : NoEnd e → (o : Option Task) (desk : List Place) → Begins old.core.state new.core.state r o
-      → desk ≡ given_out places o → IsTied told sizes name blocks new.log.history new.core.state desk
+      → desk ≡ given_out places o → IsTied told files sizes name blocks new.log.history new.core.state desk
   on_started plain o desk b is =
-      tied_started told sizes name blocks old new places held i before after slip e r o desk plain b is m
+      tied_started told files sizes name blocks old new places held i before after slip e r o desk plain b is m
 
-pub on_ended : {old new : HeldSeen} {before after : SeatSeen} {slip : Slip} {told : Bool} {sizes : Sizes} {name : ℕ}
+pub on_ended : {old new : HeldSeen} {before after : SeatSeen} {slip : Slip} {told : Bool} {files : Catalog} {sizes : Sizes} {name : ℕ}
     {blocks : List (List ℕ)} {places : List Place} (kind : Kind) (a : Result Ended RefusedEnd)
     (finished stub : FinishedTask) (desk : List Place)
     → Made (event.End kind (end_of finished)) (ended_as kind a) old new before after slip
-    → IsHeld old.log old.core.state → IsTied told sizes name blocks old.log.history old.core.state places
+    → IsHeld files old.log old.core.state → IsTied told files sizes name blocks old.log.history old.core.state places
     → finished.kind ≡ kind → stub ≡ finished → Settles told places stub desk
-    → IsTied told sizes name blocks new.log.history new.core.state desk
-on_ended {old} {new} {before} {after} {slip} {told} {sizes} {name} {blocks} {places} kind a finished stub desk m held i of_kind is s =
-    tied_ended told sizes name blocks old new places held i before after slip kind a finished desk of_kind
+    → IsTied told files sizes name blocks new.log.history new.core.state desk
+on_ended {old} {new} {before} {after} {slip} {told} {files} {sizes} {name} {blocks} {places} kind a finished stub desk m held i of_kind is s =
+    tied_ended told files sizes name blocks old new places held i before after slip kind a finished desk of_kind
     (subst (λ f. Settles told places f desk) is s) m
 
--- ---- a cache without files
+-- ---- a cache that begins
 
-pub opens_tied : (told : Bool) (sizes : Sizes) (name : ℕ) (blocks : List (List ℕ)) (history : List Entry) (state : State)
-    (places : List Place) → history ≡ [] → state ≡ no_files sizes name → places ≡ map Home blocks
-    → length blocks ≡ sizes.blocks → (told ≡ true → IsBlank (world_over sizes name blocks))
-    → IsTied told sizes name blocks history state places
-opens_tied told sizes name blocks history state places empty first home count tells =
-    subst (λ (x : List Entry × State × List Place). IsTied told sizes name blocks x.0 x.1 x.2)
-    (λ j. (sym empty j, sym first j, sym home j)) (kept_first told sizes name blocks count tells)
+pub opens_tied : (told : Bool) (files : Catalog) (sizes : Sizes) (name : ℕ) (blocks : List (List ℕ)) (history : List Entry) (state : State)
+    (places : List Place) → history ≡ [] → state ≡ adopted sizes name files → places ≡ map Home blocks
+    → length blocks ≡ sizes.blocks → (told ≡ true → MayBegin files sizes name blocks)
+    → IsTied told files sizes name blocks history state places
+opens_tied told files sizes name blocks history state places empty first home count tells =
+    subst (λ (x : List Entry × State × List Place). IsTied told files sizes name blocks x.0 x.1 x.2)
+    (λ j. (sym empty j, sym first j, sym home j)) (kept_first told files sizes name blocks count tells)

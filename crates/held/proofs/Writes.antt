@@ -12,6 +12,7 @@ use Rattle.cachecore.specs.Replies.{wrote}
 use Rattle.machine.specs.ListChanges.{lists_after}
 use Rattle.atomic_table.specs.Seated.{TableId}
 use Rattle.pc_types.specs.Limits.{Sizes}
+use Rattle.machine.specs.Catalogs.{Catalog}
 use Rattle.machine.specs.Step.{Step}
 use Rattle.held.specs.declared.log.Slip.{Slip}
 use Rattle.held.specs.Entered.{Entered, Made}
@@ -50,17 +51,17 @@ take_le k xs n h = grind (arith, length-take)
 self_le : (n : ℕ) → n ≤ n
 self_le n = omega arith
 
-module _ (name : ℕ) (table board : TableId) (sizes : Sizes) (seats : ℕ) (whole : Room) (old new : HeldSeen) (before after : SeatSeen)
-    (slip : Slip) (i : Whole name table board sizes seats whole old) where
+module _ (name : ℕ) (table board : TableId) (files : Catalog) (sizes : Sizes) (seats : ℕ) (whole : Room) (old new : HeldSeen) (before after : SeatSeen)
+    (slip : Slip) (i : Whole name table board files sizes seats whole old) where
   pub write_went : (h : HandleId) (o : ℕ) (none b : List ℕ) (a : Result WriteAnswer Refusal) (r : Reply)
       → fits_beside old.log.room old.core.state.sizes.page (reserved old.core.state) 1 (length b) ≡ true
       → Step old.core.state (event.Write h o b) (wrote a) new.core.state
       → new.core.lists ≡ lists_after old.core.state (event.Write h o b) (wrote a) old.core.lists → r ≡ wrote a
       → Entered (entry_with (record { seat = before.number; event = event.Write h o none; reply = r }) b) old.log new.log
       before after slip → new.log.room ≡ less old.log.room (length b) → new.errors ≡ old.errors
-      → Made (event.Write h o b) (wrote a) old new before after slip × Whole name table board sizes seats whole new
+      → Made (event.Write h o b) (wrote a) old new before after slip × Whole name table board files sizes seats whole new
   write_went h o none b a r fits s lists is entered room errors =
-      went name table board sizes seats whole old new before after slip i (event.Write h o b) (wrote a) _ (length b) fits
+      went name table board files sizes seats whole old new before after slip i (event.Write h o b) (wrote a) _ (length b) fits
       (self_le (length b)) (write_entry before.number h o none b a r is) (write_in before.number h o b a) s lists entered
       room errors
 
@@ -70,9 +71,9 @@ module _ (name : ℕ) (table board : TableId) (sizes : Sizes) (seats : ℕ) (who
       → new.core.lists ≡ lists_after old.core.state (event.Append h b) (wrote a) old.core.lists → r ≡ wrote a
       → Entered (entry_with (record { seat = before.number; event = event.Append h none; reply = r }) b) old.log new.log
       before after slip → new.log.room ≡ less old.log.room (length b) → new.errors ≡ old.errors
-      → Made (event.Append h b) (wrote a) old new before after slip × Whole name table board sizes seats whole new
+      → Made (event.Append h b) (wrote a) old new before after slip × Whole name table board files sizes seats whole new
   append_went h none b a r fits s lists is entered room errors =
-      went name table board sizes seats whole old new before after slip i (event.Append h b) (wrote a) _ (length b) fits
+      went name table board files sizes seats whole old new before after slip i (event.Append h b) (wrote a) _ (length b) fits
       (self_le (length b)) (append_entry before.number h none b a r is) (append_in before.number h b a) s lists entered
       room errors
 
@@ -83,7 +84,7 @@ module _ (name : ℕ) (table board : TableId) (sizes : Sizes) (seats : ℕ) (who
       → bytes ≡ reply_bytes is
       → Entered (entry_with (record { seat = before.number; event = event.Read h o n; reply = r }) bytes) old.log new.log
       before after slip → new.log.room ≡ less old.log.room (length bytes) → new.errors ≡ old.errors
-      → Made (event.Read h o n) is old new before after slip × Whole name table board sizes seats whole new
+      → Made (event.Read h o n) is old new before after slip × Whole name table board files sizes seats whole new
   read_went h o n bytes r is fits le s lists e got entered room errors =
-      went name table board sizes seats whole old new before after slip i (event.Read h o n) is _ (length bytes) fits le
+      went name table board files sizes seats whole old new before after slip i (event.Read h o n) is _ (length bytes) fits le
       (read_entry before.number h o n bytes r is e) (read_in before.number h o n bytes is got) s lists entered room errors

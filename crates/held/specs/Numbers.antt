@@ -1,6 +1,7 @@
 -- The numbers of syncs, in a history with a seat beside each event.
 use Rattle.std.specs.Prelude.{◌≡◌, ◌==◌, ℕ, Bool, true, false, List, [], ◌∷◌, if◌then◌else◌}
 use Rattle.pc_types.specs.Limits.{Sizes}
+use Rattle.machine.specs.Catalogs.{Catalog}
 use Rattle.machine.specs.declared.event.Event.{Event}
 use Rattle.machine.specs.declared.event.Event.TheVariants as event
 use Rattle.machine.specs.declared.event.Reply.{Reply}
@@ -38,5 +39,5 @@ GivenFree m has (e ∷ es) = (gives m e.event e.reply ≡ true → (k : ℕ) →
 
 -- in a legal history in which each seat ends what it has
 abbrev pub NumbersStay : Type 0
-NumbersStay = (sizes : Sizes) (name : ℕ) (history : List Entry) (state : State) → After sizes name history state → (m : ℕ)
+NumbersStay = (files : Catalog) (sizes : Sizes) (name : ℕ) (history : List Entry) (state : State) → After files sizes name history state → (m : ℕ)
     → EndsOwn m (λ k. false) history → GivenFree m (λ k. false) history

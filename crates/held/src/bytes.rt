@@ -28,7 +28,7 @@ impl<B: Naming, T: Trail> Held<B, T> {
     ) -> Result<(ReadAnswer, Slip), Denied>
         requires { seat.old.table ≡ B.table }
         ensures made { IfOk result (λ r. Made (event.Read handle offset (length out.old)) (was_read (Ok r.0) out.new) self.old self.new seat.old seat.new r.1) }
-        ensures denied { IfErr result (IsDenied B.sizes B.name B.whole (event.Read handle offset (length out.old)) self.old self.new seat.old seat.new) }
+        ensures denied { IfErr result (IsDenied B.files B.sizes B.name B.whole (event.Read handle offset (length out.old)) self.old self.new seat.old seat.new) }
         ensures count { IfOk result (λ r. bytes_read (Ok r.0) ≤ length out.old) }
         ensures rest { IfOk result (λ r. drop (bytes_read (Ok r.0)) out.new ≡ drop (bytes_read (Ok r.0)) out.old) }
         ensures kept { IfErr result (λ _. out.new ≡ out.old) }
@@ -60,7 +60,7 @@ impl<B: Naming, T: Trail> Held<B, T> {
     ) -> Result<(WriteAnswer, Slip), Denied>
         requires { seat.old.table ≡ B.table }
         ensures made { IfOk result (λ r. Made (event.Write handle offset bytes.now) (wrote (Ok r.0)) self.old self.new seat.old seat.new r.1) }
-        ensures denied { IfErr result (IsDenied B.sizes B.name B.whole (event.Write handle offset bytes.now) self.old self.new seat.old seat.new) }
+        ensures denied { IfErr result (IsDenied B.files B.sizes B.name B.whole (event.Write handle offset bytes.now) self.old self.new seat.old seat.new) }
     {
         let Held {
             core,
@@ -86,7 +86,7 @@ impl<B: Naming, T: Trail> Held<B, T> {
     ) -> Result<(WriteAnswer, Slip), Denied>
         requires { seat.old.table ≡ B.table }
         ensures made { IfOk result (λ r. Made (event.Append handle bytes.now) (wrote (Ok r.0)) self.old self.new seat.old seat.new r.1) }
-        ensures denied { IfErr result (IsDenied B.sizes B.name B.whole (event.Append handle bytes.now) self.old self.new seat.old seat.new) }
+        ensures denied { IfErr result (IsDenied B.files B.sizes B.name B.whole (event.Append handle bytes.now) self.old self.new seat.old seat.new) }
     {
         let Held {
             core,

@@ -27,7 +27,7 @@ impl<B: Naming, T: Trail> Held<B, T> {
     pub fn create(&mut self, seat: &mut Seat) -> Result<(FileId, Slip), Denied>
         requires { seat.old.table ≡ B.table }
         ensures made { IfOk result (λ r. Made event.Create (created (Ok r.0)) self.old self.new seat.old seat.new r.1) }
-        ensures denied { IfErr result (IsDenied B.sizes B.name B.whole event.Create self.old self.new seat.old seat.new) }
+        ensures denied { IfErr result (IsDenied B.files B.sizes B.name B.whole event.Create self.old self.new seat.old seat.new) }
     {
         let Held { core, log, .. } = self;
         if !log.has_room(core, 1, 0) {
@@ -44,7 +44,7 @@ impl<B: Naming, T: Trail> Held<B, T> {
         ensures made { IfOk result (λ r. Made (event.Open file) (opened (Ok r.0)) self.old self.new seat.old seat.new r.2) }
         ensures pass { IfOk result (λ r. (r.1.board ≡ B.board) × (r.1.file ≡ file.0) × (r.1.known ≡ recorded_of self.old.errors.all file.0)) }
         ensures sampled { IfOk result (λ r. (loaded : ℕ) × StandsFor r.1.start loaded r.1.known × (r.1.since ≡ sample_of loaded) × (r.1.done ≡ done_at r.1.known loaded)) }
-        ensures denied { IfErr result (IsDenied B.sizes B.name B.whole (event.Open file) self.old self.new seat.old seat.new) }
+        ensures denied { IfErr result (IsDenied B.files B.sizes B.name B.whole (event.Open file) self.old self.new seat.old seat.new) }
     {
         // Lends that the history is legal. So a file that can be opened has a number below 64, and a pass.
         let _ = self.core();
@@ -59,7 +59,7 @@ impl<B: Naming, T: Trail> Held<B, T> {
     fn open_bare(&mut self, seat: &mut Seat, file: FileId) -> Result<(HandleId, Slip), Denied>
         requires { seat.old.table ≡ B.table }
         ensures made { IfOk result (λ r. Made (event.Open file) (opened (Ok r.0)) self.old self.new seat.old seat.new r.1) }
-        ensures denied { IfErr result (IsDenied B.sizes B.name B.whole (event.Open file) self.old self.new seat.old seat.new) }
+        ensures denied { IfErr result (IsDenied B.files B.sizes B.name B.whole (event.Open file) self.old self.new seat.old seat.new) }
     {
         let Held { core, log, .. } = self;
         if !log.has_room(core, 1, 0) {
@@ -74,7 +74,7 @@ impl<B: Naming, T: Trail> Held<B, T> {
     pub fn close_handle(&mut self, seat: &mut Seat, handle: HandleId) -> Result<Slip, Denied>
         requires { seat.old.table ≡ B.table }
         ensures made { IfOk result (λ slip. Made (event.Close handle) reply.Closed self.old self.new seat.old seat.new slip) }
-        ensures denied { IfErr result (IsDenied B.sizes B.name B.whole (event.Close handle) self.old self.new seat.old seat.new) }
+        ensures denied { IfErr result (IsDenied B.files B.sizes B.name B.whole (event.Close handle) self.old self.new seat.old seat.new) }
     {
         let Held { core, log, .. } = self;
         if !log.has_room(core, 1, 0) {
@@ -90,7 +90,7 @@ impl<B: Naming, T: Trail> Held<B, T> {
     pub fn size(&mut self, seat: &mut Seat, handle: HandleId) -> Result<(u64, Slip), Denied>
         requires { seat.old.table ≡ B.table }
         ensures made { IfOk result (λ r. Made (event.Size handle) (sized (Ok r.0)) self.old self.new seat.old seat.new r.1) }
-        ensures denied { IfErr result (IsDenied B.sizes B.name B.whole (event.Size handle) self.old self.new seat.old seat.new) }
+        ensures denied { IfErr result (IsDenied B.files B.sizes B.name B.whole (event.Size handle) self.old self.new seat.old seat.new) }
     {
         let Held { core, log, .. } = self;
         if !log.has_room(core, 1, 0) {
@@ -110,7 +110,7 @@ impl<B: Naming, T: Trail> Held<B, T> {
     ) -> Result<(TruncateAnswer, Slip), Denied>
         requires { seat.old.table ≡ B.table }
         ensures made { IfOk result (λ r. Made (event.Truncate handle size) (was_truncated (Ok r.0)) self.old self.new seat.old seat.new r.1) }
-        ensures denied { IfErr result (IsDenied B.sizes B.name B.whole (event.Truncate handle size) self.old self.new seat.old seat.new) }
+        ensures denied { IfErr result (IsDenied B.files B.sizes B.name B.whole (event.Truncate handle size) self.old self.new seat.old seat.new) }
     {
         let Held { core, log, .. } = self;
         if !log.has_room(core, 1, 0) {
@@ -131,7 +131,7 @@ impl<B: Naming, T: Trail> Held<B, T> {
         requires { seat.old.table ≡ B.table }
         ensures made { IfOk result (λ r. Made event.Evict (evicted r.0) self.old self.new seat.old seat.new r.1) }
         ensures first { IfOk result (λ r. option_map numbers r.0 ≡ option_map place (find (is_idle_in self.old.core.state) (scan_order self.old.core.lists))) }
-        ensures denied { IfErr result (IsDenied B.sizes B.name B.whole event.Evict self.old self.new seat.old seat.new) }
+        ensures denied { IfErr result (IsDenied B.files B.sizes B.name B.whole event.Evict self.old self.new seat.old seat.new) }
     {
         let Held { core, log, .. } = self;
         if !log.has_room(core, 1, 0) {
@@ -147,7 +147,7 @@ impl<B: Naming, T: Trail> Held<B, T> {
         requires { seat.old.table ≡ B.table }
         ensures made { IfOk result (λ r. Made event.Age (reply.Aged r.0) self.old self.new seat.old seat.new r.1) }
         ensures until { IfOk result (λ r. r.0 + active_target self.old.core.lists ≡ length self.old.core.lists.active) }
-        ensures denied { IfErr result (IsDenied B.sizes B.name B.whole event.Age self.old self.new seat.old seat.new) }
+        ensures denied { IfErr result (IsDenied B.files B.sizes B.name B.whole event.Age self.old self.new seat.old seat.new) }
     {
         let Held { core, log, .. } = self;
         if !log.has_room(core, 1, 0) {

@@ -32,7 +32,7 @@ impl<B: Naming, T: Trail> Held<B, T> {
         ensures job { IfOk result (λ o. IfSome o (λ r. IsFlushJob self.new.core.state (Ok (flush.Job r.0)))) }
         ensures fits { IfOk result (λ o. IfSome o (λ r. IsJobFor B.name B.sizes.blocks B.sizes.page r.0)) }
         ensures nothing { IfOk result (λ o. IfNone o ((self.new ≡ self.old) × (seat.new ≡ seat.old) × NothingToWrite self.old.core.state)) }
-        ensures denied { IfErr result (IsFirstDenied B.sizes B.name B.whole self.old self.new seat.old seat.new) }
+        ensures denied { IfErr result (IsFirstDenied B.files B.sizes B.name B.whole self.old self.new seat.old seat.new) }
     {
         let Some(file) = self.core.first_to_write() else {
             return Ok(None);

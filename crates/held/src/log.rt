@@ -147,32 +147,29 @@ impl<T: Trail> Log<T> {
         without_slip(Refusal::TrailFull)
     }
 
-    /// The history of the cache of this name, without entries, its seats, numbered from 0, and one more. All memory is taken before
-    /// the trail is begun, so that one that comes back is as it was.
-    pub(crate) fn new(
-        alloc: Global,
+    /// The history of the cache of this name, without entries, over the table that `opened` gave. It takes no memory: the trail is begun
+    /// once nothing can be refused any more.
+    pub(crate) fn of(
         name: u64,
-        mut trail: T,
+        count: Arc<Owned, Global>,
+        keeper: Stand,
         seats: u64,
-    ) -> Result<(Log<T>, Vec<Seat>, Seat), T>
-        requires { seats ≤ 64 }
-        ensures log { IfOk result (λ r. (r.0.name ≡ name) × (r.0.history ≡ []) × (r.0.room ≡ T.whole trail) × (r.0.made ≡ seats + 1)) }
-        ensures seats { IfOk result (λ r. (vec_len r.1 ≡ seats) × AreFresh r.0.table name r.1.items) }
-        ensures own { IfOk result (λ r. IsFresh r.0.table name r.2 seats) }
-        ensures back { IfErr result (λ t. t ≡ trail) }
+        mut trail: T,
+    ) -> Log<T>
+        requires few { seats ≤ 64 }
+        requires table { ((arc_value count).shared.table_id ≡ keeper.table_id) × (keeper.table_id.words ≡ 1) }
+        requires keeper { keeper.me ≡ (Keeper [] (seats + 1), []) }
+        ensures log { (result.name ≡ name) × (result.history ≡ []) × (result.room ≡ T.whole trail) × (result.made ≡ seats + 1) }
+        ensures table { result.table ≡ keeper.table_id }
     {
-        let Ok((count, keeper, all, own)) = opened(alloc, name, seats) else {
-            return Err(trail);
-        };
         trail.begin(name);
-        let log = Log {
+        Log {
             name,
             count,
             keeper,
             made: seats + 1,
             trail,
-        };
-        Ok((log, all, own))
+        }
     }
 
     /// Lets a seat see the history as it is.
@@ -259,7 +256,7 @@ impl Seat {
 }
 
 /// The table of an empty history: its side of the trail, its seats, numbered from 0, and one more.
-fn opened(
+pub(crate) fn opened(
     alloc: Global,
     name: u64,
     seats: u64,

@@ -40,7 +40,7 @@ impl<B: Naming, T: Trail> Held<B, T> {
         ensures job { IfOk result (λ r. IsFillJob self.new.core.state (Ok (as_fill r.0))) }
         ensures fits { IfOk result (λ r. OnFillJob (Ok (as_fill r.0)) (IsJobFor B.name B.sizes.blocks B.sizes.page)) }
         ensures back { IfOk result (λ r. GivesBack buffer (Ok (as_fill r.0))) }
-        ensures denied { IfErr result (IsDenied B.sizes B.name B.whole (event.FillBegin handle page) self.old self.new seat.old seat.new) }
+        ensures denied { IfErr result (IsDenied B.files B.sizes B.name B.whole (event.FillBegin handle page) self.old self.new seat.old seat.new) }
     {
         let Held {
             core,
@@ -74,7 +74,7 @@ impl<B: Naming, T: Trail> Held<B, T> {
         ensures job { IfOk result (λ r. IsFlushJob self.new.core.state (Ok (as_flush r.0))) }
         ensures fits { IfOk result (λ r. OnFlushJob (Ok (as_flush r.0)) (IsJobFor B.name B.sizes.blocks B.sizes.page)) }
         ensures back { IfOk result (λ r. FlushGivesBack buffer (Ok (as_flush r.0))) }
-        ensures denied { IfErr result (IsDenied B.sizes B.name B.whole (event.FlushBegin file) self.old self.new seat.old seat.new) }
+        ensures denied { IfErr result (IsDenied B.files B.sizes B.name B.whole (event.FlushBegin file) self.old self.new seat.old seat.new) }
     {
         let Held {
             core,

@@ -32,7 +32,7 @@ impl<B: Naming, T: Trail> Held<B, T> {
     ) -> Result<(SyncId, Slip), Denied>
         requires { seat.old.table ≡ B.table }
         ensures made { IfOk result (λ r. Made (event.SyncBegin handle first last) (sync_begun (Ok r.0)) self.old self.new seat.old seat.new r.1) }
-        ensures denied { IfErr result (IsDenied B.sizes B.name B.whole (event.SyncBegin handle first last) self.old self.new seat.old seat.new) }
+        ensures denied { IfErr result (IsDenied B.files B.sizes B.name B.whole (event.SyncBegin handle first last) self.old self.new seat.old seat.new) }
     {
         let Held { core, log, .. } = self;
         if !log.has_room(core, 2, 0) {
@@ -58,7 +58,7 @@ impl<B: Naming, T: Trail> Held<B, T> {
         ensures fits { IfOk result (λ r. OnSyncJob (Ok (as_sync r.0)) (IsJobFor B.name B.sizes.blocks B.sizes.page)) }
         ensures back { IfOk result (λ r. SyncGivesBack buffer (Ok (as_sync r.0))) }
         ensures kept { IfErr result (λ e. e.1 ≡ buffer) }
-        ensures denied { IfErr result (λ e. IsDenied B.sizes B.name B.whole (event.SyncStep sync) self.old self.new seat.old seat.new e.0) }
+        ensures denied { IfErr result (λ e. IsDenied B.files B.sizes B.name B.whole (event.SyncStep sync) self.old self.new seat.old seat.new e.0) }
     {
         let Held {
             core,
@@ -82,7 +82,7 @@ impl<B: Naming, T: Trail> Held<B, T> {
         requires { seat.old.table ≡ B.table }
         ensures made { IfOk result (λ slip. Made (event.SyncDrop sync) reply.Dropped self.old self.new seat.old seat.new slip) }
         ensures in_progress { tests self.old.core.state (event.SyncDrop sync) ≡ None → IsOk result }
-        ensures denied { IfErr result (IsDenied B.sizes B.name B.whole (event.SyncDrop sync) self.old self.new seat.old seat.new) }
+        ensures denied { IfErr result (IsDenied B.files B.sizes B.name B.whole (event.SyncDrop sync) self.old self.new seat.old seat.new) }
     {
         let Held { core, log, .. } = self;
         let is_room = log.has_room(core, 1, 0);

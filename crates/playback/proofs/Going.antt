@@ -8,6 +8,8 @@ use Rattle.std.specs.Prelude.{◌⊎◌, filter, Option, Some, None, option_map,
 use Rattle.std.specs.FinMap as finmap
 use Rattle.std.specs.FinMap.{get-empty}
 use Rattle.std.specs.Ordering.{nat_cmp}
+use Rattle.machine.specs.Catalogs.{no_catalog}
+use Rattle.machine.proofs.changes.Adopted.{no_catalog_is}
 use Rattle.machine.specs.declared.event.End.{End}
 use Rattle.machine.specs.declared.event.Event.{Event}
 use Rattle.machine.specs.declared.event.Reply.{Reply}
@@ -171,7 +173,7 @@ goes fates [] w last l = tt
 goes fates (e ∷ es) w last l = (l.0, l.1, goes fates es l.0 last l.2)
 
 -- a first world is a cache without files over its own device
-first_is : (w : World) → IsBlank w → w ≡ world_over w.core.sizes w.core.name w.device
+first_is : (w : World) → IsBlank w → w ≡ world_over no_catalog w.core.sizes w.core.name w.device
 first_is w first = λ i. record {
   core = first.core i;
   device = w.device;
@@ -186,7 +188,7 @@ honest_over first last is es went =
     record {
       honest = record {
         device = first.device;
-        first = subst IsBlank (first_is first is) is;
+        first = (no_catalog_is first.core.sizes, subst IsBlank (first_is first is) is);
         fates = went.fates;
         goes = goes went.fates es _ last leads;
       };
@@ -273,7 +275,7 @@ pub one_odd : (name : ℕ) (old : WorldSeen) (es : List Entry) (place : ℕ) →
     → IsBlank (world_of old) → Stands (world_of old) es place → Plays old.core.sizes name es old.device (Odd place)
 one_odd name old es place ready first h = (
   h.0,
-  subst (λ n. Honest old.core.sizes n (played (take place es))) ready.name
+  subst (λ n. Honest no_catalog old.core.sizes n (played (take place es))) ready.name
       (honest_over (world_of old) h.1 first (played (take place es)) h.2).honest,
 )
 

@@ -7,6 +7,7 @@ use Rattle.blockdev.specs.Device.{Told}
 use Rattle.pc_types.specs.Limits.{Sizes}
 use Rattle.pc_types.specs.declared.kind.Kind.{Kind}
 use Rattle.pc_types.specs.declared.refusal.Refusal.TheVariants.{Memory, Stranger}
+use Rattle.machine.specs.Catalogs.{no_catalog}
 use Rattle.machine.specs.declared.event.End.{End}
 use Rattle.machine.specs.declared.event.Event.{Event}
 use Rattle.machine.specs.declared.event.Event.TheVariants as event
@@ -46,10 +47,10 @@ LeadsTo fates w (e ∷ es) last =
 
 -- the history is honest over a device that has these blocks first, and those after it
 pub record IsHonestOver (sizes : Sizes) (name : ℕ) (history : List Entry) (blocks after : List (List ℕ)) : Type 0 where
-  pub honest : Honest sizes name history
+  pub honest : Honest no_catalog sizes name history
   pub from : honest.device ≡ blocks
   pub last : World
-  pub leads : LeadsTo honest.fates (world_over sizes name blocks) history last
+  pub leads : LeadsTo honest.fates (world_over no_catalog sizes name blocks) history last
   pub left : last.device ≡ after
 
 abbrev pub blocks_of : Told → List (List ℕ)
@@ -60,7 +61,7 @@ abbrev pub Plays : Sizes → ℕ → List Entry → Told → Playback → Type 0
 Plays sizes name history device (Agrees left) =
     IsHonestOver sizes name (played history) (blocks_of device) (blocks_of left) × (is_some left.contents ≡ true)
 Plays sizes name history device (Odd place) =
-    (place < length history) × Honest sizes name (played (take place history))
+    (place < length history) × Honest no_catalog sizes name (played (take place history))
 
 -- ---- whether a device was honest
 
@@ -85,7 +86,7 @@ Compares d one other (OddEntry place) = ⊥
 -- is as it leaves it; or the blocks before this one are; or the entries before this place are honest
 abbrev pub Judges : Sizes → ℕ → List Entry → Copies → Told → Verdict → Type 0
 Judges sizes name history copies device (OddEntry place) =
-    (place < length history) × Honest sizes name (played (take place history))
+    (place < length history) × Honest no_catalog sizes name (played (take place history))
 Judges sizes name history copies device verdict =
     (one : Told) × (other : Told) × Plays sizes name history copies.one (Agrees one)
     × Plays sizes name history copies.other (Agrees other) × Compares device one other verdict

@@ -8,6 +8,7 @@ use Rattle.machine.specs.declared.event.Event.TheVariants as event
 use Rattle.machine.specs.declared.event.Reply.{Reply}
 use Rattle.machine.specs.declared.event.Reply.TheVariants as reply
 use Rattle.pc_types.specs.Limits.{Sizes}
+use Rattle.machine.specs.Catalogs.{Catalog}
 use Rattle.pc_types.specs.declared.refusal.Refusal.{Refusal}
 use Rattle.trail.specs.Room.{Room}
 use Rattle.held.specs.declared.log.Slip.{Slip}
@@ -61,12 +62,12 @@ begins_one job slip old new before after w =
     only_by (λ e. OnBegun (λ t. t ≡ job.serial) e.event e.reply) (event.FlushBegin w.file)
     (reply.Job (record { 0 = job.serial })) old new before after slip refl w.made
 
-module _ (sizes : Sizes) (name : ℕ) (whole : Room) where
-  pub begins_none : (old new : HeldSeen) (before after : SeatSeen) (d : Denied) → IsFirstDenied sizes name whole old new before after d
+module _ (files : Catalog) (sizes : Sizes) (name : ℕ) (whole : Room) where
+  pub begins_none : (old new : HeldSeen) (before after : SeatSeen) (d : Denied) → IsFirstDenied files sizes name whole old new before after d
       → Only (λ e. OnBegun (λ _. ⊥) e.event e.reply) before after
   begins_none old new before after d q = go d.refusal d.slip q.denied
     where
-      go : (r : Refusal) (o : Option Slip) → under.DeniedBy sizes name whole (event.FlushBegin q.file) old new before after r o
+      go : (r : Refusal) (o : Option Slip) → under.DeniedBy files sizes name whole (event.FlushBegin q.file) old new before after r o
           → Only (λ e. OnBegun (λ _. ⊥) e.event e.reply) before after
       go r None k = only_any (λ e. OnBegun (λ _. ⊥) e.event e.reply) before after k.1.shown.only
       go r (Some slip) k =
@@ -122,12 +123,12 @@ puts_on a b c p q =
 same_puts : (a b : Worker) → pushed_by b ≡ pushed_by a → Puts a b
 same_puts a b e = ([], e ∙ sym (append-nil (pushed_by a)))
 
-pub turn_puts : (sizes : Sizes) (name : ℕ) (a b : Worker) (result : Result Flushed Denied) → IfOk result (IsFlushed sizes name a b)
+pub turn_puts : (files : Catalog) (sizes : Sizes) (name : ℕ) (a b : Worker) (result : Result Flushed Denied) → IfOk result (IsFlushed files sizes name a b)
     → IfErr result (λ d. (pushed_by b ≡ pushed_by a) × MadeOne d.slip a.seat b.seat) → Puts a b
-turn_puts sizes name a b (Ok flushed.Nothing) p q = same_puts a b p.1
-turn_puts sizes name a b (Ok (flushed.Pushed serial slip)) p q = (p.0 ∷ [], p.3)
-turn_puts sizes name a b (Ok (flushed.Ended slip done)) p q = same_puts a b p.4
-turn_puts sizes name a b (Err d) p q = same_puts a b q.0
+turn_puts files sizes name a b (Ok flushed.Nothing) p q = same_puts a b p.1
+turn_puts files sizes name a b (Ok (flushed.Pushed serial slip)) p q = (p.0 ∷ [], p.3)
+turn_puts files sizes name a b (Ok (flushed.Ended slip done)) p q = same_puts a b p.4
+turn_puts files sizes name a b (Err d) p q = same_puts a b q.0
 
 carried_then : (a b c : Worker) → Goes b.seat c.seat → Puts b c → (t : ℕ) → IsCarried a b t → IsCarried a c t
 carried_then a b c goes q t (inl p) = inl (

@@ -24,6 +24,7 @@ use Rattle.machine.specs.declared.event.Reply.TheVariants as reply
 use Rattle.pc_types.specs.declared.kind.Kind.{Kind}
 use Rattle.pc_types.specs.declared.kind.Kind.TheVariants.{Fill, Flush}
 use Rattle.pc_types.specs.Limits.{Sizes}
+use Rattle.machine.specs.Catalogs.{Catalog}
 use Rattle.trail.specs.declared.entry.Entry.{Entry}
 use Rattle.trail.specs.Entries.{entry_of}
 use Rattle.trail.specs.History.{After}
@@ -48,13 +49,13 @@ use Rattle.shared.proofs.Making.{denied_by, denied_on, denied_one, makes_on, mak
 
 -- ---- one event
 
-module _ (sizes : Sizes) (name : ℕ) (whole : Room) where
+module _ (files : Catalog) (sizes : Sizes) (name : ℕ) (whole : Room) where
   -- what is refused is one event or none
   pub event_once : {A : Type 0} (result : Result A Denied) (e : Event) (old new : HeldSeen) (before after : SeatSeen)
-      → IfErr result (under.IsDenied sizes name whole e old new before after) → IfErr result (λ d. MadeOne d.slip before after)
+      → IfErr result (under.IsDenied files sizes name whole e old new before after) → IfErr result (λ d. MadeOne d.slip before after)
   event_once result e old new before after q =
-      IfErr-weaker result (under.IsDenied sizes name whole e old new before after) (λ d. MadeOne d.slip before after)
-      (λ d k. denied_one sizes name whole e old new before after d k) q
+      IfErr-weaker result (under.IsDenied files sizes name whole e old new before after) (λ d. MadeOne d.slip before after)
+      (λ d k. denied_one files sizes name whole e old new before after d k) q
 
 -- ---- ends
 
@@ -131,11 +132,11 @@ ended_file Fill old new f a receipt h = subst (λ o. IfSome o (λ (r : ReceiptSe
 ended_file Flush old new f a receipt h = receipt_file old new f a receipt h
 
 -- the receipt of an end is of the file of the request that was in flight
-pub of_request : (sizes : Sizes) (name serial : ℕ) (k : Kind) (e : Event) (r : Reply) (a : Ended) (receipt : Option ReceiptSeen)
-    (old new : HeldSeen) (before after : SeatSeen) (slip : Slip) → After sizes name old.log.history old.core.state
+pub of_request : (files : Catalog) (sizes : Sizes) (name serial : ℕ) (k : Kind) (e : Event) (r : Reply) (a : Ended) (receipt : Option ReceiptSeen)
+    (old new : HeldSeen) (before after : SeatSeen) (slip : Slip) → After files sizes name old.log.history old.core.state
     → Made e r old new before after slip → IsRecordedOf k old.errors (flush_of old.core.state serial) a receipt new.errors
-    → IfSome receipt (IsOfRequest sizes name serial after slip)
-of_request sizes name serial k e r a receipt old new before after slip legal m h =
+    → IfSome receipt (IsOfRequest files sizes name serial after slip)
+of_request files sizes name serial k e r a receipt old new before after slip legal m h =
     go receipt (ended_file k old.errors new.errors (flush_of old.core.state serial) a receipt h)
   where
     entry : Entry
@@ -151,28 +152,28 @@ of_request sizes name serial k e r a receipt old new before after slip legal m h
         ∙ take_all slip.place old.log.history (omega (arith, at))
 
     go : (o : Option ReceiptSeen) → IfSome o (λ x. flush_of old.core.state serial ≡ Some x.file)
-        → IfSome o (IsOfRequest sizes name serial after slip)
+        → IfSome o (IsOfRequest files sizes name serial after slip)
     go None x = tt
     go (Some receipt) x = record {
       state = old.core.state;
       seen = omega (arith, ap length there, length_push old.log.history entry, m.entered.placed.1);
-      leaves = subst (λ l. After sizes name l old.core.state) (sym until) legal;
+      leaves = subst (λ l. After files sizes name l old.core.state) (sym until) legal;
       file = x;
     }
 
 -- so is the failed write that it comes with
-pub failed_of_request : (sizes : Sizes) (name called serial given : ℕ) (seat : SeatSeen) (slip : Slip) (receipt : Option ReceiptSeen)
+pub failed_of_request : (files : Catalog) (sizes : Sizes) (name called serial given : ℕ) (seat : SeatSeen) (slip : Slip) (receipt : Option ReceiptSeen)
     (failed : Option FailedSeen) → failed ≡ option_map (λ r. record { cache = called; receipt = r }) receipt → given ≡ serial
-    → IfSome receipt (IsOfRequest sizes name serial seat slip)
-    → IfSome failed (λ w. IsOfRequest sizes name given seat slip w.receipt)
-failed_of_request sizes name called serial given seat slip receipt failed is same p =
-    subst (λ o. IfSome o (λ (w : FailedSeen). IsOfRequest sizes name given seat slip w.receipt)) (sym is) (go receipt p)
+    → IfSome receipt (IsOfRequest files sizes name serial seat slip)
+    → IfSome failed (λ w. IsOfRequest files sizes name given seat slip w.receipt)
+failed_of_request files sizes name called serial given seat slip receipt failed is same p =
+    subst (λ o. IfSome o (λ (w : FailedSeen). IsOfRequest files sizes name given seat slip w.receipt)) (sym is) (go receipt p)
   where
-    go : (o : Option ReceiptSeen) → IfSome o (IsOfRequest sizes name serial seat slip)
+    go : (o : Option ReceiptSeen) → IfSome o (IsOfRequest files sizes name serial seat slip)
         → IfSome (option_map (λ r. let w : FailedSeen = record { cache = called; receipt = r } in w) o)
-        (λ w. IsOfRequest sizes name given seat slip w.receipt)
+        (λ w. IsOfRequest files sizes name given seat slip w.receipt)
     go None p = tt
-    go (Some r) p = subst (λ n. IsOfRequest sizes name n seat slip r) (sym same) p
+    go (Some r) p = subst (λ n. IsOfRequest files sizes name n seat slip r) (sym same) p
 
 -- a buffer that comes back is as long as it was
 pub back_sized : (a : Ended) (f : FinishedTask) (n : ℕ) → EndGivesBack f (Ok a) → length f.bytes ≡ n → length (buffer_of a) ≡ n
@@ -204,10 +205,10 @@ ends_then job a b c slip told p q = record {
 
 -- ---- a flusher's turn
 
-pub begins_first : (sizes : Sizes) (name : ℕ) (job : Task) (slip : Slip) (old new : HeldSeen) (before after : SeatSeen)
-    → After sizes name old.log.history old.core.state → Writes job slip old new before after
-    → IsFlushJob new.core.state (Ok (flush.Job job)) → Begins sizes name job before after slip
-begins_first sizes name job slip old new before after legal w own = record {
+pub begins_first : (files : Catalog) (sizes : Sizes) (name : ℕ) (job : Task) (slip : Slip) (old new : HeldSeen) (before after : SeatSeen)
+    → After files sizes name old.log.history old.core.state → Writes job slip old new before after
+    → IsFlushJob new.core.state (Ok (flush.Job job)) → Begins files sizes name job before after slip
+begins_first files sizes name job slip old new before after legal w own = record {
   file = w.file;
   made = record {
     earlier = old.log.history;
@@ -225,9 +226,9 @@ begins_first sizes name job slip old new before after legal w own = record {
   own = own;
 }
 
-pub begins_then : (sizes : Sizes) (name : ℕ) (job : Task) (a b c : SeatSeen) (slip : Slip) → Begins sizes name job a b slip → Goes b c
-    → Begins sizes name job a c slip
-begins_then sizes name job a b c slip p q = record {
+pub begins_then : (files : Catalog) (sizes : Sizes) (name : ℕ) (job : Task) (a b c : SeatSeen) (slip : Slip) → Begins files sizes name job a b slip → Goes b c
+    → Begins files sizes name job a c slip
+begins_then files sizes name job a b c slip p q = record {
   file = p.file;
   made = record {
     earlier = p.made.earlier;
@@ -243,15 +244,15 @@ begins_then sizes name job a b c slip p q = record {
   own = p.own;
 }
 
-module _ (sizes : Sizes) (name : ℕ) (whole : Room) where
-  pub denied_begun : (old new : HeldSeen) (before after : SeatSeen) (d : Denied) → IsFirstDenied sizes name whole old new before after d
-      → IsDenied sizes name whole IsFlushBegin before after d
+module _ (files : Catalog) (sizes : Sizes) (name : ℕ) (whole : Room) where
+  pub denied_begun : (old new : HeldSeen) (before after : SeatSeen) (d : Denied) → IsFirstDenied files sizes name whole old new before after d
+      → IsDenied files sizes name whole IsFlushBegin before after d
   denied_begun old new before after d q =
-      denied_by sizes name whole IsFlushBegin (event.FlushBegin q.file) old new before after d tt q.denied
+      denied_by files sizes name whole IsFlushBegin (event.FlushBegin q.file) old new before after d tt q.denied
 
-  pub unbegun : (old new : HeldSeen) (before after : SeatSeen) (d : Denied) → IsFirstDenied sizes name whole old new before after d
+  pub unbegun : (old new : HeldSeen) (before after : SeatSeen) (d : Denied) → IsFirstDenied files sizes name whole old new before after d
       → MadeOne d.slip before after
-  unbegun old new before after d q = denied_one sizes name whole (event.FlushBegin q.file) old new before after d q.denied
+  unbegun old new before after d q = denied_one files sizes name whole (event.FlushBegin q.file) old new before after d q.denied
 
 pub begun_one : (job : Task) (slip : Slip) (old new : HeldSeen) (before after : SeatSeen)
     → Writes job slip old new before after → MadeOne (Some slip) before after

@@ -12,6 +12,7 @@ use Rattle.machine.specs.State.{file_at}
 use Rattle.machine.specs.declared.event.Event.{Event}
 use Rattle.machine.specs.declared.event.Reply.{Reply}
 use Rattle.pc_types.specs.Limits.{Sizes}
+use Rattle.machine.specs.Catalogs.{Catalog}
 use Rattle.trail.specs.Entries.{entry_of}
 use Rattle.trail.specs.History.{After}
 use Rattle.held.specs.declared.log.Slip.{Slip}
@@ -21,11 +22,11 @@ use Rattle.held.specs.declared.denied.Denied.{Denied}
 use Rattle.shared.specs.Polls.{Hears, IsLevelled, Polled}
 use Rattle.shared.specs.Synced.{Reports}
 
-pub hears_by : (sizes : Sizes) (name : ℕ) (e : Event) (r : Reply) (old new held : HeldSeen) (before after : SeatSeen)
+pub hears_by : (files : Catalog) (sizes : Sizes) (name : ℕ) (e : Event) (r : Reply) (old new held : HeldSeen) (before after : SeatSeen)
     (slip : Slip) (p : PassSeen) → Made e r old new before after slip → held ≡ new
-    → After sizes name held.log.history held.core.state → length p.known ≡ (file_at held.core.state p.file).failures
-    → Hears sizes name slip after p
-hears_by sizes name e r old new held before after slip p m same legal known =
+    → After files sizes name held.log.history held.core.state → length p.known ≡ (file_at held.core.state p.file).failures
+    → Hears files sizes name slip after p
+hears_by files sizes name e r old new held before after slip p m same legal known =
     let history : length held.log.history ≡ length old.log.history + 1 =
     ap (λ (h : HeldSeen). length h.log.history) same ∙ ap length m.entered.history
     ∙ length_push old.log.history (entry_of before.number e r) in
@@ -34,13 +35,13 @@ hears_by sizes name e r old new held before after slip p m same legal known =
     ∙ take_all (slip.place + 1) held.log.history (omega (arith, history, m.entered.placed.1)) in
     record {
       state = held.core.state;
-      leaves = subst (λ l. After sizes name l held.core.state) (sym there) legal;
+      leaves = subst (λ l. After files sizes name l held.core.state) (sym there) legal;
       known = omega (arith, known);
     }
 
-hears_on : (sizes : Sizes) (name : ℕ) (slip : Slip) (seat : SeatSeen) (p q : PassSeen) → q.file ≡ p.file
-    → IsPrefix p.known q.known → Hears sizes name slip seat p → Hears sizes name slip seat q
-hears_on sizes name slip seat p q same more h =
+hears_on : (files : Catalog) (sizes : Sizes) (name : ℕ) (slip : Slip) (seat : SeatSeen) (p q : PassSeen) → q.file ≡ p.file
+    → IsPrefix p.known q.known → Hears files sizes name slip seat p → Hears files sizes name slip seat q
+hears_on files sizes name slip seat p q same more h =
     let longer : length p.known ≤ length q.known = prefix_length p.known q.known more in
     let there : (file_at h.state q.file).failures ≡ (file_at h.state p.file).failures =
     ap (λ n. (file_at h.state n).failures) same in
@@ -88,20 +89,20 @@ level_new old new file p q same of knew is knows =
     knows ∙ ap (recorded_of new.all) of ∙ ap (λ (r : RecorderSeen). recorded_of r.all file) same ∙ sym knew in
     is ∙ ap (λ (l : List Recording). record p { known = l }) known
 
-pub hears_named : (sizes : Sizes) (name called : ℕ) (slip : Slip) (seat : SeatSeen) (p : PassSeen) → called ≡ name
-    → Hears sizes name slip seat p → Hears sizes called slip seat p
-hears_named sizes name called slip seat p is h = subst (λ n. Hears sizes n slip seat p) (sym is) h
+pub hears_named : (files : Catalog) (sizes : Sizes) (name called : ℕ) (slip : Slip) (seat : SeatSeen) (p : PassSeen) → called ≡ name
+    → Hears files sizes name slip seat p → Hears sizes called slip seat p
+hears_named files sizes name called slip seat p is h = subst (λ n. Hears sizes n slip seat p) (sym is) h
 
 -- what an fsync tells knows what its sync heard
-pub hears_told : (result : Result Slip Denied) (sizes : Sizes) (name : ℕ) (at : Slip) (seat : SeatSeen) (mid new : PassSeen)
-    → Hears sizes name at seat mid → IfOk result (λ slip. (slip ≡ at) × Polled mid new None)
-    → IfOk result (λ slip. Hears sizes name slip seat new)
-hears_told result sizes name at seat mid new h q =
-    IfOk-weaker result (λ slip. (slip ≡ at) × Polled mid new None) (λ slip. Hears sizes name slip seat new)
-    (λ slip k. subst (λ (s : Slip). Hears sizes name s seat new) (sym k.0)
-    (hears_on sizes name at seat mid new k.1.same.1 k.1.grows h)) q
+pub hears_told : (result : Result Slip Denied) (files : Catalog) (sizes : Sizes) (name : ℕ) (at : Slip) (seat : SeatSeen) (mid new : PassSeen)
+    → Hears files sizes name at seat mid → IfOk result (λ slip. (slip ≡ at) × Polled mid new None)
+    → IfOk result (λ slip. Hears files sizes name slip seat new)
+hears_told result files sizes name at seat mid new h q =
+    IfOk-weaker result (λ slip. (slip ≡ at) × Polled mid new None) (λ slip. Hears files sizes name slip seat new)
+    (λ slip k. subst (λ (s : Slip). Hears files sizes name s seat new) (sym k.0)
+    (hears_on files sizes name at seat mid new k.1.same.1 k.1.grows h)) q
 
-pub hears_reported : (sizes : Sizes) (name : ℕ) (at slip : Slip) (seat : SeatSeen) (mid new : PassSeen) (failed : Option ℕ)
-    (d : Denied) → Hears sizes name at seat mid → Reports failed slip mid new d → Hears sizes name at seat new
-hears_reported sizes name at slip seat mid new failed d h r =
-    hears_on sizes name at seat mid new r.polled.same.1 r.polled.grows h
+pub hears_reported : (files : Catalog) (sizes : Sizes) (name : ℕ) (at slip : Slip) (seat : SeatSeen) (mid new : PassSeen) (failed : Option ℕ)
+    (d : Denied) → Hears files sizes name at seat mid → Reports failed slip mid new d → Hears files sizes name at seat new
+hears_reported files sizes name at slip seat mid new failed d h r =
+    hears_on files sizes name at seat mid new r.polled.same.1 r.polled.grows h

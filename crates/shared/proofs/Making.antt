@@ -18,6 +18,7 @@ use Rattle.pc_types.specs.declared.refusal.Refusal.{Refusal}
 use Rattle.pc_types.specs.declared.refusal.Refusal.TheVariants.{Io, TrailFull}
 use Rattle.trail.specs.Entries.{entry_of, noted}
 use Rattle.pc_types.specs.Limits.{Sizes}
+use Rattle.machine.specs.Catalogs.{Catalog}
 use Rattle.machine.specs.State.{State}
 use Rattle.trail.specs.History.{After}
 use Rattle.trail.specs.Room.{Room, has_room, reserved}
@@ -73,10 +74,10 @@ makes_then a b c slip e r p q = record {
 
 -- ---- refusals
 
-module _ (sizes : Sizes) (name : ℕ) (whole : Room) where
+module _ (files : Catalog) (sizes : Sizes) (name : ℕ) (whole : Room) where
   -- a trail that is full for an event
   pub full_at : (own : Event → Type 0) (e : Event) (old new : HeldSeen) (before after : SeatSeen)
-      → own e → under.IsFull sizes name whole e old new before after → SawFull sizes name whole own before after
+      → own e → under.IsFull files sizes name whole e old new before after → SawFull files sizes name whole own before after
   full_at own e old new before after is q = record {
     event = e;
     is = is;
@@ -84,12 +85,12 @@ module _ (sizes : Sizes) (name : ℕ) (whole : Room) where
     saw = (goes_seen before after q.shown).grows;
     sees = prefix_self after.list;
     state = old.core.state;
-    leaves = subst (λ l. After sizes name l old.core.state) (sym q.sees) q.leaves;
+    leaves = subst (λ l. After files sizes name l old.core.state) (sym q.sees) q.leaves;
     full = ap (λ x. has_room x (reserved old.core.state) old.core.state e) (ap (room_after whole) q.sees ∙ sym q.left) ∙ q.full;
   }
 
   pub full_on : (own wider : Event → Type 0) (a b c : SeatSeen) → ((e : Event) → own e → wider e) → Goes a b
-      → SawFull sizes name whole own b c → SawFull sizes name whole wider a c
+      → SawFull files sizes name whole own b c → SawFull files sizes name whole wider a c
   full_on own wider a b c f p q = record {
     event = q.event;
     is = f q.event q.is;
@@ -101,8 +102,8 @@ module _ (sizes : Sizes) (name : ℕ) (whole : Room) where
     full = q.full;
   }
 
-  full_then : (own : Event → Type 0) (a b c : SeatSeen) → SawFull sizes name whole own a b → Goes b c
-      → SawFull sizes name whole own a c
+  full_then : (own : Event → Type 0) (a b c : SeatSeen) → SawFull files sizes name whole own a b → Goes b c
+      → SawFull files sizes name whole own a c
   full_then own a b c p q = record {
     event = p.event;
     is = p.is;
@@ -115,73 +116,73 @@ module _ (sizes : Sizes) (name : ℕ) (whole : Room) where
   }
 
   pub denied_on : (own wider : Event → Type 0) (a b c : SeatSeen) (d : Denied) → ((e : Event) → own e → wider e) → Goes a b
-      → IsDenied sizes name whole own b c d → IsDenied sizes name whole wider a c d
+      → IsDenied files sizes name whole own b c d → IsDenied files sizes name whole wider a c d
   denied_on own wider a b c d f p q = go d.refusal d.slip q
     where
-      go : (r : Refusal) (o : Option Slip) → DeniedBy sizes name whole own b c r o → DeniedBy sizes name whole wider a c r o
+      go : (r : Refusal) (o : Option Slip) → DeniedBy files sizes name whole own b c r o → DeniedBy files sizes name whole wider a c r o
       go r None (inl q) = inl (q.0, full_on own wider a b c f p q.1)
       go r None (inr q) = inr q
       go r (Some slip) q = (q.0, q.1, f q.0 q.2, q.3, makes_on a b c slip q.0 q.1 p q.4)
 
-  pub denied_then : (own : Event → Type 0) (a b c : SeatSeen) (d : Denied) → IsDenied sizes name whole own a b d → Goes b c → IsDenied sizes name whole own a c d
+  pub denied_then : (own : Event → Type 0) (a b c : SeatSeen) (d : Denied) → IsDenied files sizes name whole own a b d → Goes b c → IsDenied files sizes name whole own a c d
   denied_then own a b c d p q = go d.refusal d.slip p
     where
-      go : (r : Refusal) (o : Option Slip) → DeniedBy sizes name whole own a b r o → DeniedBy sizes name whole own a c r o
+      go : (r : Refusal) (o : Option Slip) → DeniedBy files sizes name whole own a b r o → DeniedBy files sizes name whole own a c r o
       go r None (inl p) = inl (p.0, full_then own a b c p.1 q)
       go r None (inr p) = inr p
       go r (Some slip) p = (p.0, p.1, p.2, p.3, makes_then a b c slip p.0 p.1 p.4 q)
 
   -- the event of a call was refused
   pub denied_by : (own : Event → Type 0) (e : Event) (old new : HeldSeen) (before after : SeatSeen) (d : Denied) → own e
-      → under.IsDenied sizes name whole e old new before after d → IsDenied sizes name whole own before after d
+      → under.IsDenied files sizes name whole e old new before after d → IsDenied files sizes name whole own before after d
   denied_by own e old new before after d is q = go d.refusal d.slip q
     where
-      go : (r : Refusal) (o : Option Slip) → under.DeniedBy sizes name whole e old new before after r o → DeniedBy sizes name whole own before after r o
+      go : (r : Refusal) (o : Option Slip) → under.DeniedBy files sizes name whole e old new before after r o → DeniedBy files sizes name whole own before after r o
       go r None q = inl (q.0, full_at own e old new before after is q.1)
       go r (Some slip) q = (e, reply.Refused r, is, refl, makes_by e (reply.Refused r) old new before after slip q)
 
   under_goes : (e : Event) (old new : HeldSeen) (before after : SeatSeen) (d : Denied)
-      → under.IsDenied sizes name whole e old new before after d → Goes before after
+      → under.IsDenied files sizes name whole e old new before after d → Goes before after
   under_goes e old new before after d q = go d.refusal d.slip q
     where
-      go : (r : Refusal) (o : Option Slip) → under.DeniedBy sizes name whole e old new before after r o → Goes before after
+      go : (r : Refusal) (o : Option Slip) → under.DeniedBy files sizes name whole e old new before after r o → Goes before after
       go r None q = goes_seen before after q.1.shown
       go r (Some slip) q = goes_by e (reply.Refused r) old new before after slip q
 
   -- the seat goes on where an event is refused
   pub goes_denied : (e : Event) (old new : HeldSeen) (before after : SeatSeen) (d : Denied)
-      → under.IsDenied sizes name whole e old new before after d → Goes before after
+      → under.IsDenied files sizes name whole e old new before after d → Goes before after
   goes_denied = under_goes
 
   pub denied_event : (e : Event) (old new : HeldSeen) (before after : SeatSeen) (d : Denied)
-      → under.IsDenied sizes name whole e old new before after d → IsDenied sizes name whole (λ x. x ≡ e) before after d
+      → under.IsDenied files sizes name whole e old new before after d → IsDenied files sizes name whole (λ x. x ≡ e) before after d
   denied_event e old new before after d q = denied_by (λ x. x ≡ e) e old new before after d refl q
 
   pub denied_begin : (h : HandleId) (p : PageIndex) (old new : HeldSeen) (before after : SeatSeen) (d : Denied)
-      → under.IsDenied sizes name whole (event.FillBegin h p) old new before after d → IsDenied sizes name whole (IsHelp h) before after d
+      → under.IsDenied files sizes name whole (event.FillBegin h p) old new before after d → IsDenied files sizes name whole (IsHelp h) before after d
   denied_begin h p old new before after d q = denied_by (IsHelp h) (event.FillBegin h p) old new before after d refl q
 
   -- a fill whose device call failed
   pub failed_end : (h : HandleId) (end : End) (code : ℕ) (b : List ℕ) (old new : HeldSeen) (before after : SeatSeen) (slip : Slip)
       → Made (event.End Fill end) (fill_ended (Ok (ended.Failed code b))) old new before after slip
-      → IsDenied sizes name whole (IsHelp h) before after (record { refusal = Io code; slip = Some slip })
+      → IsDenied files sizes name whole (IsHelp h) before after (record { refusal = Io code; slip = Some slip })
   failed_end h end code b old new before after slip m =
       (event.End Fill end, reply.Failed code, tt, refl, makes_by (event.End Fill end) (reply.Failed code) old new before after slip m)
 
-  pub full_for_on : (own : Event → Type 0) (a b c : SeatSeen) (d : Denied) → Goes a b → IsFullFor sizes name whole own b c d
-      → IsFullFor sizes name whole own a c d
+  pub full_for_on : (own : Event → Type 0) (a b c : SeatSeen) (d : Denied) → Goes a b → IsFullFor files sizes name whole own b c d
+      → IsFullFor files sizes name whole own a c d
   full_for_on own a b c d p q = (q.0, full_on own own a b c (λ e x. x) p q.1)
 
-  pub denied_first : (old new : HeldSeen) (before after : SeatSeen) (d : Denied) → IsFirstDenied sizes name whole old new before after d
-      → IsDenied sizes name whole IsRoomEvent before after d
+  pub denied_first : (old new : HeldSeen) (before after : SeatSeen) (d : Denied) → IsFirstDenied files sizes name whole old new before after d
+      → IsDenied files sizes name whole IsRoomEvent before after d
   denied_first old new before after d q =
       denied_by IsRoomEvent (event.FlushBegin q.file) old new before after d tt q.denied
 
 -- ---- one part of a call after another
 
-module _ (sizes : Sizes) (name : ℕ) (whole : Room) where
-  pub room_on : (a b c : SeatSeen) (d : Denied) → Goes a b → IsDenied sizes name whole IsRoomEvent b c d → IsDenied sizes name whole IsRoomEvent a c d
-  room_on a b c d p q = denied_on sizes name whole IsRoomEvent IsRoomEvent a b c d (λ e x. x) p q
+module _ (files : Catalog) (sizes : Sizes) (name : ℕ) (whole : Room) where
+  pub room_on : (a b c : SeatSeen) (d : Denied) → Goes a b → IsDenied files sizes name whole IsRoomEvent b c d → IsDenied files sizes name whole IsRoomEvent a c d
+  room_on a b c d p q = denied_on files sizes name whole IsRoomEvent IsRoomEvent a b c d (λ e x. x) p q
 
 pub room_helps : (h : HandleId) (e : Event) → IsRoomEvent e → IsHelp h e
 room_helps h (event.End kind end) x = x
@@ -195,50 +196,50 @@ eviction_room event.Evict x = x
 eviction_room event.Age x = x
 eviction_room e x = absurd x
 
-module _ (sizes : Sizes) (name : ℕ) (whole : Room) where
+module _ (files : Catalog) (sizes : Sizes) (name : ℕ) (whole : Room) where
   -- no page could be let go, since the trail is full
-  pub room_full : (a b : SeatSeen) (d : Denied) → IsFullFor sizes name whole IsEviction a b d
-      → IsDenied sizes name whole IsRoomEvent a b d
+  pub room_full : (a b : SeatSeen) (d : Denied) → IsFullFor files sizes name whole IsEviction a b d
+      → IsDenied files sizes name whole IsRoomEvent a b d
   room_full a b d q =
-      subst (IsDenied sizes name whole IsRoomEvent a b) (sym q.0)
-      (inl (refl, full_on sizes name whole IsEviction IsRoomEvent a a b eviction_room (goes_same a a refl) q.1))
+      subst (IsDenied files sizes name whole IsRoomEvent a b) (sym q.0)
+      (inl (refl, full_on files sizes name whole IsEviction IsRoomEvent a a b eviction_room (goes_same a a refl) q.1))
 
-  pub help_room : (h : HandleId) (a b : SeatSeen) (d : Denied) → IsDenied sizes name whole IsRoomEvent a b d → IsDenied sizes name whole (IsHelp h) a b d
-  help_room h a b d q = denied_on sizes name whole IsRoomEvent (IsHelp h) a a b d (room_helps h) (goes_same a a refl) q
+  pub help_room : (h : HandleId) (a b : SeatSeen) (d : Denied) → IsDenied files sizes name whole IsRoomEvent a b d → IsDenied files sizes name whole (IsHelp h) a b d
+  help_room h a b d q = denied_on files sizes name whole IsRoomEvent (IsHelp h) a a b d (room_helps h) (goes_same a a refl) q
 
-  pub help_on : (h : HandleId) (a b c : SeatSeen) (d : Denied) → Goes a b → IsDenied sizes name whole (IsHelp h) b c d → IsDenied sizes name whole (IsHelp h) a c d
-  help_on h a b c d p q = denied_on sizes name whole (IsHelp h) (IsHelp h) a b c d (λ e x. x) p q
+  pub help_on : (h : HandleId) (a b c : SeatSeen) (d : Denied) → Goes a b → IsDenied files sizes name whole (IsHelp h) b c d → IsDenied files sizes name whole (IsHelp h) a c d
+  help_on h a b c d p q = denied_on files sizes name whole (IsHelp h) (IsHelp h) a b c d (λ e x. x) p q
 
   -- the call's own event was refused
   pub call_first : (h : HandleId) (own : Event) (old new : HeldSeen) (before after : SeatSeen) (d : Denied)
-      → under.IsDenied sizes name whole own old new before after d → IsDenied sizes name whole (IsCallOf h own) before after d
-  call_first h own old new before after d q = denied_by sizes name whole (IsCallOf h own) own old new before after d (inl refl) q
+      → under.IsDenied files sizes name whole own old new before after d → IsDenied files sizes name whole (IsCallOf h own) before after d
+  call_first h own old new before after d q = denied_by files sizes name whole (IsCallOf h own) own old new before after d (inl refl) q
 
-  pub call_help : (h : HandleId) (own : Event) (a b c : SeatSeen) (d : Denied) → Goes a b → IsDenied sizes name whole (IsHelp h) b c d
-      → IsDenied sizes name whole (IsCallOf h own) a c d
-  call_help h own a b c d p q = denied_on sizes name whole (IsHelp h) (IsCallOf h own) a b c d (λ e x. inr x) p q
+  pub call_help : (h : HandleId) (own : Event) (a b c : SeatSeen) (d : Denied) → Goes a b → IsDenied files sizes name whole (IsHelp h) b c d
+      → IsDenied files sizes name whole (IsCallOf h own) a c d
+  call_help h own a b c d p q = denied_on files sizes name whole (IsHelp h) (IsCallOf h own) a b c d (λ e x. inr x) p q
 
-  pub call_on : (h : HandleId) (own : Event) (a b c : SeatSeen) (d : Denied) → Goes a b → IsDenied sizes name whole (IsCallOf h own) b c d
-      → IsDenied sizes name whole (IsCallOf h own) a c d
-  call_on h own a b c d p q = denied_on sizes name whole (IsCallOf h own) (IsCallOf h own) a b c d (λ e x. x) p q
+  pub call_on : (h : HandleId) (own : Event) (a b c : SeatSeen) (d : Denied) → Goes a b → IsDenied files sizes name whole (IsCallOf h own) b c d
+      → IsDenied files sizes name whole (IsCallOf h own) a c d
+  call_on h own a b c d p q = denied_on files sizes name whole (IsCallOf h own) (IsCallOf h own) a b c d (λ e x. x) p q
 
   -- an event that was refused, and what came of it
   pub call_settled : (h : HandleId) (own : Event) (old new : HeldSeen) (a b c : SeatSeen) (first d : Denied)
-      → under.IsDenied sizes name whole own old new a b first → Goes b c → IsStillDenied sizes name whole first b c d → IsDenied sizes name whole (IsCallOf h own) a c d
+      → under.IsDenied files sizes name whole own old new a b first → Goes b c → IsStillDenied files sizes name whole first b c d → IsDenied files sizes name whole (IsCallOf h own) a c d
   call_settled h own old new a b c first d q goes (inl same) =
-      subst (IsDenied sizes name whole (IsCallOf h own) a c) (sym same)
-      (denied_then sizes name whole (IsCallOf h own) a b c first (call_first h own old new a b first q) goes)
+      subst (IsDenied files sizes name whole (IsCallOf h own) a c) (sym same)
+      (denied_then files sizes name whole (IsCallOf h own) a b c first (call_first h own old new a b first q) goes)
   call_settled h own old new a b c first d q goes (inr room) =
-      denied_on sizes name whole IsRoomEvent (IsCallOf h own) a b c d (λ e x. inr (room_helps h e x)) (under_goes sizes name whole own old new a b first q) room
+      denied_on files sizes name whole IsRoomEvent (IsCallOf h own) a b c d (λ e x. inr (room_helps h e x)) (under_goes files sizes name whole own old new a b first q) room
 
   -- a fill that was refused, and what came of it
   pub help_settled : (h : HandleId) (p : PageIndex) (old new : HeldSeen) (a b c : SeatSeen) (first d : Denied)
-      → under.IsDenied sizes name whole (event.FillBegin h p) old new a b first → Goes b c → IsStillDenied sizes name whole first b c d → IsDenied sizes name whole (IsHelp h) a c d
+      → under.IsDenied files sizes name whole (event.FillBegin h p) old new a b first → Goes b c → IsStillDenied files sizes name whole first b c d → IsDenied files sizes name whole (IsHelp h) a c d
   help_settled h p old new a b c first d q goes (inl same) =
-      subst (IsDenied sizes name whole (IsHelp h) a c) (sym same)
-      (denied_then sizes name whole (IsHelp h) a b c first (denied_begin sizes name whole h p old new a b first q) goes)
+      subst (IsDenied files sizes name whole (IsHelp h) a c) (sym same)
+      (denied_then files sizes name whole (IsHelp h) a b c first (denied_begin files sizes name whole h p old new a b first q) goes)
   help_settled h p old new a b c first d q goes (inr room) =
-      denied_on sizes name whole IsRoomEvent (IsHelp h) a b c d (room_helps h) (under_goes sizes name whole (event.FillBegin h p) old new a b first q) room
+      denied_on files sizes name whole IsRoomEvent (IsHelp h) a b c d (room_helps h) (under_goes files sizes name whole (event.FillBegin h p) old new a b first q) room
 
 -- ---- an attempt that is to be made again
 
@@ -262,15 +263,15 @@ pub retries_by : (e : Event) (r : Reply) (old new : HeldSeen) (a b c : SeatSeen)
     → Made e r old new a b slip → Goes b c → Retries a c e
 retries_by e r old new a b c slip plain later m goes = (r, later, leads_by e r old new a b c slip plain m goes)
 
-module _ (sizes : Sizes) (name : ℕ) (whole : Room) where
+module _ (files : Catalog) (sizes : Sizes) (name : ℕ) (whole : Room) where
   pub retries_denied : (e : Event) (old new : HeldSeen) (a b c : SeatSeen) (d : Denied) → IsPlain e → is_for_now d.refusal ≡ true
-      → under.IsDenied sizes name whole e old new a b d → Goes b c → Retries a c e
+      → under.IsDenied files sizes name whole e old new a b d → Goes b c → Retries a c e
   retries_denied e old new a b c d plain later q goes = go d.refusal d.slip later q
     where
       never : is_for_now TrailFull ≡ true → Retries a c e
       never x = absurd cc
 
-      go : (r : Refusal) (o : Option Slip) → is_for_now r ≡ true → under.DeniedBy sizes name whole e old new a b r o → Retries a c e
+      go : (r : Refusal) (o : Option Slip) → is_for_now r ≡ true → under.DeniedBy files sizes name whole e old new a b r o → Retries a c e
       go r None later q = never (subst (λ (x : Refusal). is_for_now x ≡ true) q.0 later)
       go r (Some slip) later q = retries_by e (reply.Refused r) old new a b c slip plain later q goes
 
@@ -296,23 +297,23 @@ first_made e r old new a b slip plain m =
 pub first_again : (e : Event) (a b : SeatSeen) → Retries a b e → OwnFirst e a b
 first_again e a b p = record { is = inr (p.0, p.2, inl p.1) }
 
-module _ (sizes : Sizes) (name : ℕ) (whole : Room) where
-  pub first_denied : (e : Event) (old new : HeldSeen) (a b : SeatSeen) (d : Denied) → IsPlain e → under.IsDenied sizes name whole e old new a b d
+module _ (files : Catalog) (sizes : Sizes) (name : ℕ) (whole : Room) where
+  pub first_denied : (e : Event) (old new : HeldSeen) (a b : SeatSeen) (d : Denied) → IsPlain e → under.IsDenied files sizes name whole e old new a b d
       → OwnFirst e a b
   first_denied e old new a b d plain q = go d.refusal d.slip q
     where
-      go : (r : Refusal) (o : Option Slip) → under.DeniedBy sizes name whole e old new a b r o → OwnFirst e a b
+      go : (r : Refusal) (o : Option Slip) → under.DeniedBy files sizes name whole e old new a b r o → OwnFirst e a b
       go r None q = first_seen e a b q.1.shown
       go r (Some slip) q = first_made e (reply.Refused r) old new a b slip plain q
 
   -- a refusal, and what came of it: nothing more, but where room might have spared it
   pub first_settled : (e : Event) (old new : HeldSeen) (a b c : SeatSeen) (d : Denied) → IsPlain e
       → (wants_room d.refusal ≡ true → is_for_now d.refusal ≡ true) → (wants_room d.refusal ≡ false → c ≡ b)
-      → under.IsDenied sizes name whole e old new a b d → Goes b c → OwnFirst e a c
+      → under.IsDenied files sizes name whole e old new a b d → Goes b c → OwnFirst e a c
   first_settled e old new a b c d plain passes quiet q goes = go (wants_room d.refusal) refl
     where
       go : (w : Bool) → wants_room d.refusal ≡ w → OwnFirst e a c
-      go true is = first_again e a c (retries_denied sizes name whole e old new a b c d plain (passes is) q goes)
+      go true is = first_again e a c (retries_denied files sizes name whole e old new a b c d plain (passes is) q goes)
       go false is = subst (OwnFirst e a) (sym (quiet is)) (first_denied e old new a b d plain q)
 
 -- after tries that have to be made again
@@ -320,28 +321,28 @@ pub first_on : (e : Event) (a b c : SeatSeen) → (b ≡ a) ⊎ Retries a b e �
 first_on e a b c (inl same) q goes = subst (λ (s : SeatSeen). OwnFirst e s c) same q
 first_on e a b c (inr p) q goes = record { is = inr (p.0, leads_then e p.0 a b c p.2 goes, inl p.1) }
 
-module _ (sizes : Sizes) (name : ℕ) (whole : Room) where
+module _ (files : Catalog) (sizes : Sizes) (name : ℕ) (whole : Room) where
   -- what is answered was answered by the event, refusals too
   pub event_denied : {A : Type 0} (result : Result A Denied) (e : Event) (old new : HeldSeen) (before after : SeatSeen)
-      → IfErr result (under.IsDenied sizes name whole e old new before after) → IfErr result (IsDenied sizes name whole (λ x. x ≡ e) before after)
+      → IfErr result (under.IsDenied files sizes name whole e old new before after) → IfErr result (IsDenied files sizes name whole (λ x. x ≡ e) before after)
   event_denied result e old new before after q =
-      IfErr-weaker result (under.IsDenied sizes name whole e old new before after) (IsDenied sizes name whole (λ x. x ≡ e) before after)
-      (λ d k. denied_event sizes name whole e old new before after d k) q
+      IfErr-weaker result (under.IsDenied files sizes name whole e old new before after) (IsDenied files sizes name whole (λ x. x ≡ e) before after)
+      (λ d k. denied_event files sizes name whole e old new before after d k) q
 
   -- an event that could not be made
   pub full_by : (e : Event) (old new : HeldSeen) (before after : SeatSeen) (d : Denied)
-      → under.IsDenied sizes name whole e old new before after d → IsFullIfNoSlip before after d
+      → under.IsDenied files sizes name whole e old new before after d → IsFullIfNoSlip before after d
   full_by e old new before after d q none = go d.refusal d.slip q none
     where
-      go : (r : Refusal) (o : Option Slip) → under.DeniedBy sizes name whole e old new before after r o → o ≡ None
+      go : (r : Refusal) (o : Option Slip) → under.DeniedBy files sizes name whole e old new before after r o → o ≡ None
           → (r ≡ TrailFull) × IsShown before after
       go r None q none = (q.0, q.1.shown)
       go r (Some slip) q none = absurd cc
 
   pub event_full : {A : Type 0} (result : Result A Denied) (e : Event) (old new : HeldSeen) (before after : SeatSeen)
-      → IfErr result (under.IsDenied sizes name whole e old new before after) → IfErr result (IsFullIfNoSlip before after)
+      → IfErr result (under.IsDenied files sizes name whole e old new before after) → IfErr result (IsFullIfNoSlip before after)
   event_full result e old new before after q =
-      IfErr-weaker result (under.IsDenied sizes name whole e old new before after) (IsFullIfNoSlip before after)
+      IfErr-weaker result (under.IsDenied files sizes name whole e old new before after) (IsFullIfNoSlip before after)
       (λ d k. full_by e old new before after d k) q
 
 -- none was made
@@ -353,12 +354,12 @@ pub made_one : (e : Event) (r : Reply) (old new : HeldSeen) (before after : Seat
     → Made e r old new before after slip → MadeOne (Some slip) before after
 made_one e r old new before after slip m = m.entered.count
 
-module _ (sizes : Sizes) (name : ℕ) (whole : Room) where
+module _ (files : Catalog) (sizes : Sizes) (name : ℕ) (whole : Room) where
   -- one that was refused is too, where there is a slip of it
   pub denied_one : (e : Event) (old new : HeldSeen) (before after : SeatSeen) (d : Denied)
-      → under.IsDenied sizes name whole e old new before after d → MadeOne d.slip before after
+      → under.IsDenied files sizes name whole e old new before after d → MadeOne d.slip before after
   denied_one e old new before after d q = go d.refusal d.slip q
     where
-      go : (r : Refusal) (o : Option Slip) → under.DeniedBy sizes name whole e old new before after r o → MadeOne o before after
+      go : (r : Refusal) (o : Option Slip) → under.DeniedBy files sizes name whole e old new before after r o → MadeOne o before after
       go r None q = q.1.shown
       go r (Some slip) q = q.entered.count

@@ -21,6 +21,7 @@ use Rattle.pc_types.specs.declared.refusal.Refusal.{Refusal}
 use Rattle.trail.specs.declared.entry.Entry.{Entry}
 use Rattle.trail.specs.Entries.{end_with, entry_of, noted}
 use Rattle.pc_types.specs.Limits.{Sizes}
+use Rattle.machine.specs.Catalogs.{Catalog}
 use Rattle.trail.specs.Room.{Room}
 use Rattle.held.specs.declared.log.Slip.{Slip}
 use Rattle.held.specs.Entered.{Made}
@@ -55,13 +56,13 @@ noted_plain : (e : Event) (r : Reply) → IsPlain e → noted e r ≡ e
 noted_plain (event.End kind end) r x = absurd x
 noted_plain e r x = refl
 
-module _ (sizes : Sizes) (name : ℕ) (whole : Room) where
+module _ (files : Catalog) (sizes : Sizes) (name : ℕ) (whole : Room) where
   only_denied : (own : Entry → Type 0) (e : Event) (old new : HeldSeen) (before after : SeatSeen) (d : Denied)
-      → ((why : Refusal) → own (entry_of before.number e (reply.Refused why))) → under.IsDenied sizes name whole e old new before after d
+      → ((why : Refusal) → own (entry_of before.number e (reply.Refused why))) → under.IsDenied files sizes name whole e old new before after d
       → Only own before after
   only_denied own e old new before after d is q = go d.refusal d.slip q
     where
-      go : (r : Refusal) (o : Option Slip) → under.DeniedBy sizes name whole e old new before after r o → Only own before after
+      go : (r : Refusal) (o : Option Slip) → under.DeniedBy files sizes name whole e old new before after r o → Only own before after
       go r None q = only_any own before after q.1.shown.only
       go r (Some slip) q = only_by own e (reply.Refused r) old new before after slip (is r) q
 
@@ -72,11 +73,11 @@ pub only_event : (e : Event) (r : Reply) (old new : HeldSeen) (before after : Se
 only_event e r old new before after slip m plain =
     only_by (λ x. x.event ≡ e) e r old new before after slip (noted_plain e r plain) m
 
-module _ (sizes : Sizes) (name : ℕ) (whole : Room) where
+module _ (files : Catalog) (sizes : Sizes) (name : ℕ) (whole : Room) where
   pub only_event_denied : (e : Event) (old new : HeldSeen) (before after : SeatSeen) (d : Denied)
-      → under.IsDenied sizes name whole e old new before after d → IsPlain e → Only (λ x. x.event ≡ e) before after
+      → under.IsDenied files sizes name whole e old new before after d → IsPlain e → Only (λ x. x.event ≡ e) before after
   only_event_denied e old new before after d q plain =
-      only_denied sizes name whole (λ x. x.event ≡ e) e old new before after d (λ why. noted_plain e (reply.Refused why) plain) q
+      only_denied files sizes name whole (λ x. x.event ≡ e) e old new before after d (λ why. noted_plain e (reply.Refused why) plain) q
 
 -- ---- room
 
@@ -84,10 +85,10 @@ only_age : (r : Reply) (old new : HeldSeen) (before after : SeatSeen) (slip : Sl
     → Made event.Age r old new before after slip → Only (λ x. IsEviction x.event) before after
 only_age r old new before after slip m = only_by (λ x. IsEviction x.event) event.Age r old new before after slip tt m
 
-module _ (sizes : Sizes) (name : ℕ) (whole : Room) where
+module _ (files : Catalog) (sizes : Sizes) (name : ℕ) (whole : Room) where
   pub only_age_denied : (old new : HeldSeen) (before after : SeatSeen) (d : Denied)
-      → under.IsDenied sizes name whole event.Age old new before after d → Only (λ x. IsEviction x.event) before after
-  only_age_denied old new before after d q = only_denied sizes name whole (λ x. IsEviction x.event) event.Age old new before after d (λ why. tt) q
+      → under.IsDenied files sizes name whole event.Age old new before after d → Only (λ x. IsEviction x.event) before after
+  only_age_denied old new before after d q = only_denied files sizes name whole (λ x. IsEviction x.event) event.Age old new before after d (λ why. tt) q
 
 -- pages aged, and one was let go, or that was refused
 pub only_evicts : (r t : Reply) (x y z w : HeldSeen) (a b c : SeatSeen) (first slip : Slip)
@@ -96,12 +97,12 @@ only_evicts r t x y z w a b c first slip m n =
     only_on (λ x. IsEviction x.event) a b c (only_age r x y a b first m)
     (only_by (λ x. IsEviction x.event) event.Evict t z w b c slip tt n)
 
-module _ (sizes : Sizes) (name : ℕ) (whole : Room) where
+module _ (files : Catalog) (sizes : Sizes) (name : ℕ) (whole : Room) where
   pub only_evict_denied : (r : Reply) (x y z w : HeldSeen) (a b c : SeatSeen) (first : Slip) (d : Denied)
-      → Made event.Age r x y a b first → under.IsDenied sizes name whole event.Evict z w b c d → Only (λ x. IsEviction x.event) a c
+      → Made event.Age r x y a b first → under.IsDenied files sizes name whole event.Evict z w b c d → Only (λ x. IsEviction x.event) a c
   only_evict_denied r x y z w a b c first d m q =
       only_on (λ x. IsEviction x.event) a b c (only_age r x y a b first m)
-      (only_denied sizes name whole (λ x. IsEviction x.event) event.Evict z w b c d (λ why. tt) q)
+      (only_denied files sizes name whole (λ x. IsEviction x.event) event.Evict z w b c d (λ why. tt) q)
 
 pub eviction_on : (a b c : SeatSeen) → Only (λ x. IsEviction x.event) a b → Only (λ x. IsEviction x.event) b c
     → Only (λ x. IsEviction x.event) a c
@@ -113,11 +114,11 @@ only_flush_end end r old new before after slip m =
     only_by (λ x. IsFlushEnd x.event) (event.End Flush end) r old new before after slip
     (noted_end IsFlushEnd Flush end r (λ x a b c. tt)) m
 
-module _ (sizes : Sizes) (name : ℕ) (whole : Room) where
+module _ (files : Catalog) (sizes : Sizes) (name : ℕ) (whole : Room) where
   pub only_first_denied : (old new : HeldSeen) (before after : SeatSeen) (d : Denied)
-      → IsFirstDenied sizes name whole old new before after d → Only (λ x. IsRoomEvent x.event) before after
+      → IsFirstDenied files sizes name whole old new before after d → Only (λ x. IsRoomEvent x.event) before after
   only_first_denied old new before after d q =
-      only_denied sizes name whole (λ x. IsRoomEvent x.event) (event.FlushBegin q.file) old new before after d (λ why. tt) q.denied
+      only_denied files sizes name whole (λ x. IsRoomEvent x.event) (event.FlushBegin q.file) old new before after d (λ why. tt) q.denied
 
 evicts_room : (e : Event) → IsEviction e → IsRoomEvent e
 evicts_room event.Evict x = tt
@@ -156,11 +157,11 @@ pub only_fill_begin : (h : HandleId) (p : PageIndex) (r : Reply) (old new : Held
 only_fill_begin h p r old new before after slip m =
     only_by (λ x. IsHelp h x.event) (event.FillBegin h p) r old new before after slip refl m
 
-module _ (sizes : Sizes) (name : ℕ) (whole : Room) where
+module _ (files : Catalog) (sizes : Sizes) (name : ℕ) (whole : Room) where
   pub only_fill_begin_denied : (h : HandleId) (p : PageIndex) (old new : HeldSeen) (before after : SeatSeen) (d : Denied)
-      → under.IsDenied sizes name whole (event.FillBegin h p) old new before after d → Only (λ x. IsHelp h x.event) before after
+      → under.IsDenied files sizes name whole (event.FillBegin h p) old new before after d → Only (λ x. IsHelp h x.event) before after
   only_fill_begin_denied h p old new before after d q =
-      only_denied sizes name whole (λ x. IsHelp h x.event) (event.FillBegin h p) old new before after d (λ why. refl) q
+      only_denied files sizes name whole (λ x. IsHelp h x.event) (event.FillBegin h p) old new before after d (λ why. refl) q
 
 -- a fill was begun, and helped on
 pub only_begun_on : (h : HandleId) (p : PageIndex) (r : Reply) (old new : HeldSeen) (a b c : SeatSeen) (slip : Slip)
@@ -182,12 +183,12 @@ pub only_filled : (h : HandleId) (a b c : SeatSeen) → Only (λ x. IsRoomEvent 
     → Only (λ x. IsHelp h x.event) a c
 only_filled h a b c p q = only_on (λ x. IsHelp h x.event) a b c (only_room h a b p) q
 
-module _ (sizes : Sizes) (name : ℕ) (whole : Room) where
+module _ (files : Catalog) (sizes : Sizes) (name : ℕ) (whole : Room) where
   -- a fill was refused, and room made
   pub only_relieved : (h : HandleId) (p : PageIndex) (old new : HeldSeen) (a b c : SeatSeen) (d : Denied)
-      → under.IsDenied sizes name whole (event.FillBegin h p) old new a b d → Only (λ x. IsRoomEvent x.event) b c → Only (λ x. IsHelp h x.event) a c
+      → under.IsDenied files sizes name whole (event.FillBegin h p) old new a b d → Only (λ x. IsRoomEvent x.event) b c → Only (λ x. IsHelp h x.event) a c
   only_relieved h p old new a b c d q only =
-      only_on (λ x. IsHelp h x.event) a b c (only_fill_begin_denied sizes name whole h p old new a b d q) (only_room h b c only)
+      only_on (λ x. IsHelp h x.event) a b c (only_fill_begin_denied files sizes name whole h p old new a b d q) (only_room h b c only)
 
 -- ---- calls
 
@@ -196,11 +197,11 @@ pub only_try : (h : HandleId) (own : Event) (r : Reply) (old new : HeldSeen) (be
 only_try h own r old new before after slip m plain undone =
     only_by (IsTry h own) own r old new before after slip (inl (noted_plain own r plain, undone)) m
 
-module _ (sizes : Sizes) (name : ℕ) (whole : Room) where
+module _ (files : Catalog) (sizes : Sizes) (name : ℕ) (whole : Room) where
   pub only_try_denied : (h : HandleId) (own : Event) (old new : HeldSeen) (before after : SeatSeen) (d : Denied)
-      → under.IsDenied sizes name whole own old new before after d → IsPlain own → Only (IsTry h own) before after
+      → under.IsDenied files sizes name whole own old new before after d → IsPlain own → Only (IsTry h own) before after
   only_try_denied h own old new before after d q plain =
-      only_denied sizes name whole (IsTry h own) own old new before after d (λ why. inl (noted_plain own (reply.Refused why) plain, tt)) q
+      only_denied files sizes name whole (IsTry h own) own old new before after d (λ why. inl (noted_plain own (reply.Refused why) plain, tt)) q
 
 pub only_try_on : (h : HandleId) (own : Event) (a b c : SeatSeen) → Only (IsTry h own) a b → Only (IsTry h own) b c
     → Only (IsTry h own) a c
@@ -226,12 +227,12 @@ only_missed h g own r old new a b c slip m plain undone same p =
     only_on (IsTry h own) a b c (only_try h own r old new a b slip m plain undone)
     (only_help h own b c (subst (λ (n : HandleId). Only (λ x. IsHelp n x.event) b c) same p))
 
-module _ (sizes : Sizes) (name : ℕ) (whole : Room) where
+module _ (files : Catalog) (sizes : Sizes) (name : ℕ) (whole : Room) where
   -- it was refused, and room was made
   pub only_settled : (h : HandleId) (own : Event) (old new : HeldSeen) (a b c : SeatSeen) (d : Denied)
-      → under.IsDenied sizes name whole own old new a b d → IsPlain own → Only (λ x. IsRoomEvent x.event) b c → Only (IsTry h own) a c
+      → under.IsDenied files sizes name whole own old new a b d → IsPlain own → Only (λ x. IsRoomEvent x.event) b c → Only (IsTry h own) a c
   only_settled h own old new a b c d q plain p =
-      only_on (IsTry h own) a b c (only_try_denied sizes name whole h own old new a b d q plain) (only_help h own b c (only_room h b c p))
+      only_on (IsTry h own) a b c (only_try_denied files sizes name whole h own old new a b d q plain) (only_help h own b c (only_room h b c p))
 
 -- ---- syncs
 
@@ -241,11 +242,11 @@ step_try : (m : SyncId) (r : Reply) (old new : HeldSeen) (before after : SeatSee
 step_try m r old new before after slip on q =
     only_by (IsTurnTry m) (event.SyncStep m) r old new before after slip (inl (refl, on)) q
 
-module _ (sizes : Sizes) (name : ℕ) (whole : Room) where
+module _ (files : Catalog) (sizes : Sizes) (name : ℕ) (whole : Room) where
   pub try_denied : (m : SyncId) (old new : HeldSeen) (before after : SeatSeen) (d : Denied)
-      → under.IsDenied sizes name whole (event.SyncStep m) old new before after d → Only (IsTurnTry m) before after
+      → under.IsDenied files sizes name whole (event.SyncStep m) old new before after d → Only (IsTurnTry m) before after
   try_denied m old new before after d q =
-      only_denied sizes name whole (IsTurnTry m) (event.SyncStep m) old new before after d (λ why. inl (refl, tt)) q
+      only_denied files sizes name whole (IsTurnTry m) (event.SyncStep m) old new before after d (λ why. inl (refl, tt)) q
 
 pub try_waits : (m : SyncId) (x : SyncStepped) (p : PageIndex) (b : List ℕ) (old new : HeldSeen) (before after : SeatSeen)
     (slip : Slip) → x ≡ stepped.Wait p b → Made (event.SyncStep m) (sync_stepped (Ok x)) old new before after slip
@@ -305,12 +306,12 @@ pub event_few : (e : Event) (r : Reply) (old new : HeldSeen) (before after : Sea
     → Made e r old new before after slip → after.count ≤ before.count + 1
 event_few e r old new before after slip m = let one = m.entered.count in omega arith
 
-module _ (sizes : Sizes) (name : ℕ) (whole : Room) where
+module _ (files : Catalog) (sizes : Sizes) (name : ℕ) (whole : Room) where
   pub event_denied_few : (e : Event) (old new : HeldSeen) (before after : SeatSeen) (d : Denied)
-      → under.IsDenied sizes name whole e old new before after d → after.count ≤ before.count + 1
+      → under.IsDenied files sizes name whole e old new before after d → after.count ≤ before.count + 1
   event_denied_few e old new before after d q = go d.refusal d.slip q
     where
-      go : (r : Refusal) (o : Option Slip) → under.DeniedBy sizes name whole e old new before after r o → after.count ≤ before.count + 1
+      go : (r : Refusal) (o : Option Slip) → under.DeniedBy files sizes name whole e old new before after r o → after.count ≤ before.count + 1
       go r None q = let same : after.count ≡ before.count = ap (λ (s : SeatSeen). s.count) q.1.shown.same in omega arith
       go r (Some slip) q = event_few e (reply.Refused r) old new before after slip q
 
@@ -346,13 +347,13 @@ sync_same h first last before after e =
     let none : SyncId = record { 0 = 0 } in
     tried_alone h first last none before after (only_same (IsSyncTry h first last none) before after e)
 
-module _ (sizes : Sizes) (name : ℕ) (whole : Room) where
+module _ (files : Catalog) (sizes : Sizes) (name : ℕ) (whole : Room) where
   pub sync_not_begun : (h : HandleId) (first last : PageIndex) (old new : HeldSeen) (before after : SeatSeen) (d : Denied)
-      → under.IsDenied sizes name whole (event.SyncBegin h first last) old new before after d → OneSync h first last before after
+      → under.IsDenied files sizes name whole (event.SyncBegin h first last) old new before after d → OneSync h first last before after
   sync_not_begun h first last old new before after d q =
       let none : SyncId = record { 0 = 0 } in
       tried_alone h first last none before after
-      (only_denied sizes name whole (IsSyncTry h first last none) (event.SyncBegin h first last) old new before after d
+      (only_denied files sizes name whole (IsSyncTry h first last none) (event.SyncBegin h first last) old new before after d
       (λ why. inl (refl, tt)) q)
 
 pub sync_over : (h : HandleId) (first last : PageIndex) (m : SyncId) (old new : HeldSeen) (a b c : SeatSeen) (slip : Slip)
@@ -442,8 +443,8 @@ only_begun job slip old new before after w =
     only_by (λ x. IsFlushBegin x.event) (event.FlushBegin w.file) (reply.Job (record { 0 = job.serial })) old new before after
     slip tt w.made
 
-module _ (sizes : Sizes) (name : ℕ) (whole : Room) where
+module _ (files : Catalog) (sizes : Sizes) (name : ℕ) (whole : Room) where
   pub only_begun_denied : (old new : HeldSeen) (before after : SeatSeen) (d : Denied)
-      → IsFirstDenied sizes name whole old new before after d → Only (λ x. IsFlushBegin x.event) before after
+      → IsFirstDenied files sizes name whole old new before after d → Only (λ x. IsFlushBegin x.event) before after
   only_begun_denied old new before after d q =
-      only_denied sizes name whole (λ x. IsFlushBegin x.event) (event.FlushBegin q.file) old new before after d (λ why. tt) q.denied
+      only_denied files sizes name whole (λ x. IsFlushBegin x.event) (event.FlushBegin q.file) old new before after d (λ why. tt) q.denied

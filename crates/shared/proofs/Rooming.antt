@@ -20,6 +20,7 @@ use Rattle.machine.specs.Step.{Step}
 use Rattle.machine.specs.Tests.{has_idle, is_full, is_of, read_count, read_stop, refuse, stopped, tests}
 use Rattle.machine.proofs.steps.Cases.{answered}
 use Rattle.pc_types.specs.Limits.{Sizes, is_geometry}
+use Rattle.machine.specs.Catalogs.{Catalog}
 use Rattle.pc_types.specs.declared.ids.FileId.{FileId}
 use Rattle.pc_types.specs.declared.ids.HandleId.{HandleId}
 use Rattle.pc_types.specs.declared.ids.PageIndex.{PageIndex}
@@ -91,24 +92,24 @@ room_refused s new event.Evict why is step =
 room_refused s new event.Age why is step = absurd step.0
 room_refused s new e why is step = absurd is
 
-module _ (sizes : Sizes) (name : ℕ) (whole : Room) where
+module _ (files : Catalog) (sizes : Sizes) (name : ℕ) (whole : Room) where
   pub room_unwanted : (e : Event) (old new : HeldSeen) (before after : SeatSeen) (d : Denied) → IsRoomEvent e
-      → under.IsDenied sizes name whole e old new before after d → wants_room d.refusal ≡ false
+      → under.IsDenied files sizes name whole e old new before after d → wants_room d.refusal ≡ false
   room_unwanted e old new before after d is q = go d.refusal d.slip q
     where
-      go : (r : Refusal) (o : Option Slip) → under.DeniedBy sizes name whole e old new before after r o → wants_room r ≡ false
+      go : (r : Refusal) (o : Option Slip) → under.DeniedBy files sizes name whole e old new before after r o → wants_room r ≡ false
       go r None q = subst (λ (x : Refusal). wants_room x ≡ false) (sym q.0) refl
       go r (Some slip) q = room_refused old.core.state new.core.state e r is q.step
 
   pub age_unwanted : (old new : HeldSeen) (before after : SeatSeen) (d : Denied)
-      → under.IsDenied sizes name whole event.Age old new before after d → wants_room d.refusal ≡ false
+      → under.IsDenied files sizes name whole event.Age old new before after d → wants_room d.refusal ≡ false
   age_unwanted old new before after d q = room_unwanted event.Age old new before after d tt q
 
   pub evict_unwanted : (old new : HeldSeen) (before after : SeatSeen) (d : Denied)
-      → under.IsDenied sizes name whole event.Evict old new before after d → wants_room d.refusal ≡ false
+      → under.IsDenied files sizes name whole event.Evict old new before after d → wants_room d.refusal ≡ false
   evict_unwanted old new before after d q = room_unwanted event.Evict old new before after d tt q
 
-  pub first_unwanted : (old new : HeldSeen) (before after : SeatSeen) (d : Denied) → IsFirstDenied sizes name whole old new before after d
+  pub first_unwanted : (old new : HeldSeen) (before after : SeatSeen) (d : Denied) → IsFirstDenied files sizes name whole old new before after d
       → wants_room d.refusal ≡ false
   first_unwanted old new before after d q = room_unwanted (event.FlushBegin q.file) old new before after d tt q.denied
 
@@ -116,25 +117,25 @@ abbrev bare : Refusal → Denied
 bare r = record { refusal = r; slip = None }
 
 -- to let a page go is refused by a full trail alone
-module _ (sizes : Sizes) (name : ℕ) (whole : Room) where
+module _ (files : Catalog) (sizes : Sizes) (name : ℕ) (whole : Room) where
   pub full_age : (old new : HeldSeen) (before after : SeatSeen) (d : Denied)
-      → under.IsDenied sizes name whole event.Age old new before after d → IsFullFor sizes name whole IsEviction before after d
+      → under.IsDenied files sizes name whole event.Age old new before after d → IsFullFor files sizes name whole IsEviction before after d
   full_age old new before after d q = go d.refusal d.slip q
     where
-      go : (r : Refusal) (o : Option Slip) → under.DeniedBy sizes name whole event.Age old new before after r o
-          → IsFullFor sizes name whole IsEviction before after (record { refusal = r; slip = o })
-      go r None q = (ap bare q.0, full_at sizes name whole IsEviction event.Age old new before after tt q.1)
+      go : (r : Refusal) (o : Option Slip) → under.DeniedBy files sizes name whole event.Age old new before after r o
+          → IsFullFor files sizes name whole IsEviction before after (record { refusal = r; slip = o })
+      go r None q = (ap bare q.0, full_at files sizes name whole IsEviction event.Age old new before after tt q.1)
       go r (Some slip) q = absurd q.step.0
 
   pub full_evict : (old new : HeldSeen) (a b c : SeatSeen) (d : Denied) → Goes a b
-      → under.IsDenied sizes name whole event.Evict old new b c d → IsFullFor sizes name whole IsEviction a c d
+      → under.IsDenied files sizes name whole event.Evict old new b c d → IsFullFor files sizes name whole IsEviction a c d
   full_evict old new a b c d goes q = go d.refusal d.slip q
     where
-      go : (r : Refusal) (o : Option Slip) → under.DeniedBy sizes name whole event.Evict old new b c r o
-          → IsFullFor sizes name whole IsEviction a c (record { refusal = r; slip = o })
+      go : (r : Refusal) (o : Option Slip) → under.DeniedBy files sizes name whole event.Evict old new b c r o
+          → IsFullFor files sizes name whole IsEviction a c (record { refusal = r; slip = o })
       go r None q = (
         ap bare q.0,
-        full_on sizes name whole IsEviction IsEviction a b c (λ e x. x) goes (full_at sizes name whole IsEviction event.Evict old new b c tt q.1),
+        full_on files sizes name whole IsEviction IsEviction a b c (λ e x. x) goes (full_at files sizes name whole IsEviction event.Evict old new b c tt q.1),
       )
       go r (Some slip) q =
           elim (answered (tests old.core.state event.Evict) old.core.state event.Evict (reply.Refused r) new.core.state q.step) [
@@ -176,22 +177,22 @@ unwanted_of why e = by (wants_room why) refl
     by false is = refl
     by true is = let x : true ≡ false = sym (wants_pass why is) ∙ e in absurd cc
 
-module _ (sizes : Sizes) (name : ℕ) (whole : Room) where
+module _ (files : Catalog) (sizes : Sizes) (name : ℕ) (whole : Room) where
   pub read_lasts : (h : HandleId) (o n : ℕ) (old new : HeldSeen) (before after : SeatSeen) (d : Denied)
-      → under.IsDenied sizes name whole (event.Read h o n) old new before after d → is_for_now d.refusal ≡ false
+      → under.IsDenied files sizes name whole (event.Read h o n) old new before after d → is_for_now d.refusal ≡ false
   read_lasts h o n old new before after d q = go d.refusal d.slip q
     where
-      go : (r : Refusal) (k : Option Slip) → under.DeniedBy sizes name whole (event.Read h o n) old new before after r k → is_for_now r ≡ false
+      go : (r : Refusal) (k : Option Slip) → under.DeniedBy files sizes name whole (event.Read h o n) old new before after r k → is_for_now r ≡ false
       go r None q = subst (λ (x : Refusal). is_for_now x ≡ false) (sym q.0) refl
       go r (Some slip) q = read_refused old.core.state new.core.state h o n r q.step
 
   pub read_unwanted : (h : HandleId) (o n : ℕ) (old new : HeldSeen) (before after : SeatSeen) (d : Denied)
-      → under.IsDenied sizes name whole (event.Read h o n) old new before after d → wants_room d.refusal ≡ false
+      → under.IsDenied files sizes name whole (event.Read h o n) old new before after d → wants_room d.refusal ≡ false
   read_unwanted h o n old new before after d q = unwanted_of d.refusal (read_lasts h o n old new before after d q)
 
-pub lost_unwanted : (sizes : Sizes) (name : ℕ) (after : SeatSeen) (d : Denied) → wants_room d.refusal ≡ false
-    → IsLost sizes name after d
-lost_unwanted sizes name after d other wants = absurd cc
+pub lost_unwanted : (files : Catalog) (sizes : Sizes) (name : ℕ) (after : SeatSeen) (d : Denied) → wants_room d.refusal ≡ false
+    → IsLost files sizes name after d
+lost_unwanted files sizes name after d other wants = absurd cc
 
 -- ---- no page was to be written, or one was written in vain
 
@@ -266,11 +267,11 @@ evict_none None n x y z a b c first slip m q e =
 
 -- ---- the entry of the refusal
 
-lost_by : (sizes : Sizes) (name : ℕ) (e : Event) (why : Refusal) (old new : HeldSeen) (before at after : SeatSeen) (slip : Slip)
+lost_by : (files : Catalog) (sizes : Sizes) (name : ℕ) (e : Event) (why : Refusal) (old new : HeldSeen) (before at after : SeatSeen) (slip : Slip)
     → IsTrue (is_geometry sizes) → IsAsked e → wants_room why ≡ true → Made e (reply.Refused why) old new before at slip
-    → After sizes name new.log.history new.core.state → IsCrammed why new.core.state → IsUnwritten new.core.state at after
-    → Goes at after → IsRoomLost sizes name why after slip
-lost_by sizes name e why old new before at after slip geometry asked wants m legal crammed unwritten goes =
+    → After files sizes name new.log.history new.core.state → IsCrammed why new.core.state → IsUnwritten new.core.state at after
+    → Goes at after → IsRoomLost files sizes name why after slip
+lost_by files sizes name e why old new before at after slip geometry asked wants m legal crammed unwritten goes =
     let entry : Entry = entry_of before.number e (reply.Refused why) in
     let long : length at.list ≡ slip.place + 1 =
     ap length (m.entered.sees ∙ m.entered.history) ∙ length_push old.log.history entry
@@ -282,10 +283,10 @@ lost_by sizes name e why old new before at after slip geometry asked wants m leg
     record {
       state = new.core.state;
       seen = omega (arith, long, more);
-      leaves = subst (λ l. After sizes name l new.core.state) (sym (there ∙ m.entered.sees)) legal;
+      leaves = subst (λ l. After files sizes name l new.core.state) (sym (there ∙ m.entered.sees)) legal;
       crammed = crammed;
       there =
-          has_to_write sizes name new.log.history old.core.state new.core.state e why geometry asked wants m.step legal crammed.0
+          has_to_write files sizes name new.log.history old.core.state new.core.state e why geometry asked wants m.step legal crammed.0
           crammed.1;
       at = at;
       stood = sym there;
@@ -294,34 +295,34 @@ lost_by sizes name e why old new before at after slip geometry asked wants m leg
   where
     since : IsUnwritten new.core.state at after → FailsToWrite at after
     since (inl none) =
-        absurd (has_to_write sizes name new.log.history old.core.state new.core.state e why geometry asked wants m.step legal
+        absurd (has_to_write files sizes name new.log.history old.core.state new.core.state e why geometry asked wants m.step legal
         crammed.0 crammed.1 none)
     since (inr fails) = fails
 
 module _ (whole : Room) where
   -- an event was refused, and it stands if the cache is crammed
-  pub lost_denied : (sizes : Sizes) (name : ℕ) (e : Event) (old new : HeldSeen) (before at after : SeatSeen) (first d : Denied)
-      → IsTrue (is_geometry sizes) → IsAsked e → under.IsDenied sizes name whole e old new before at first
-      → After sizes name new.log.history new.core.state → Goes at after
+  pub lost_denied : (files : Catalog) (sizes : Sizes) (name : ℕ) (e : Event) (old new : HeldSeen) (before at after : SeatSeen) (first d : Denied)
+      → IsTrue (is_geometry sizes) → IsAsked e → under.IsDenied files sizes name whole e old new before at first
+      → After files sizes name new.log.history new.core.state → Goes at after
       → (wants_room d.refusal ≡ true
       → (d ≡ first) × IsCrammed d.refusal new.core.state × IsUnwritten new.core.state at after)
-      → IsLost sizes name after d
-  lost_denied sizes name e old new before at after first d geometry asked q legal goes f = λ wants.
+      → IsLost files sizes name after d
+  lost_denied files sizes name e old new before at after first d geometry asked q legal goes f = λ wants.
       let k = f wants in
       let there = go first.refusal first.slip q (subst (λ (x : Denied). wants_room x.refusal ≡ true) k.0 wants)
       (subst (λ (x : Denied). IsCrammed x.refusal new.core.state) k.0 k.1) k.2 in
-      subst (λ (x : Denied). (slip : Slip) × (x.slip ≡ Some slip) × IsRoomLost sizes name x.refusal after slip) (sym k.0)
+      subst (λ (x : Denied). (slip : Slip) × (x.slip ≡ Some slip) × IsRoomLost files sizes name x.refusal after slip) (sym k.0)
       there
     where
-      go : (r : Refusal) (o : Option Slip) → under.DeniedBy sizes name whole e old new before at r o → wants_room r ≡ true
+      go : (r : Refusal) (o : Option Slip) → under.DeniedBy files sizes name whole e old new before at r o → wants_room r ≡ true
           → IsCrammed r new.core.state → IsUnwritten new.core.state at after
-          → (slip : Slip) × (o ≡ Some slip) × IsRoomLost sizes name r after slip
+          → (slip : Slip) × (o ≡ Some slip) × IsRoomLost files sizes name r after slip
       go r None q wants crammed unwritten =
           let other : wants_room r ≡ false = subst (λ (x : Refusal). wants_room x ≡ false) (sym q.0) refl in absurd cc
       go r (Some slip) q wants crammed unwritten = (
         slip,
         refl,
-        lost_by sizes name e r old new before at after slip geometry asked wants q legal crammed unwritten goes,
+        lost_by files sizes name e r old new before at after slip geometry asked wants q legal crammed unwritten goes,
       )
 
 -- ---- no request is in flight at the entry of a refusal that may pass when one ends
@@ -356,9 +357,9 @@ wanting_rests NoFrame s wants e = e
 wanting_rests DirtyLimit s wants e = e
 wanting_rests why s wants e = absurd cc
 
-pub final_lasting : (sizes : Sizes) (name : ℕ) (after : SeatSeen) (d : Denied) → is_for_now d.refusal ≡ false
-    → IsFinal sizes name after d
-final_lasting sizes name after d lasts passes = absurd cc
+pub final_lasting : (files : Catalog) (sizes : Sizes) (name : ℕ) (after : SeatSeen) (d : Denied) → is_for_now d.refusal ≡ false
+    → IsFinal files sizes name after d
+final_lasting files sizes name after d lasts passes = absurd cc
 
 -- a seat or a handle is of another cache
 admitted_why : (here own : Bool) (why : Refusal) (r : Result Unit Refusal)
@@ -371,9 +372,9 @@ pub refused_why : (name seat handle : ℕ) (why : Refusal) → admitted name sea
     → (why ≡ BadHandle) ⊎ (why ≡ Stranger)
 refused_why name seat handle why e = admitted_why (seat == name) (handle == name) why (admitted name seat handle) refl e
 
-pub admitted_final : (sizes : Sizes) (name : ℕ) (after : SeatSeen) (own seat handle : ℕ) (why : Refusal) (d : Denied)
-    → admitted own seat handle ≡ Err why → d ≡ record { refusal = why; slip = None } → IsFinal sizes name after d
-admitted_final sizes name after own seat handle why d e is = final_lasting sizes name after d
+pub admitted_final : (files : Catalog) (sizes : Sizes) (name : ℕ) (after : SeatSeen) (own seat handle : ℕ) (why : Refusal) (d : Denied)
+    → admitted own seat handle ≡ Err why → d ≡ record { refusal = why; slip = None } → IsFinal files sizes name after d
+admitted_final files sizes name after own seat handle why d e is = final_lasting files sizes name after d
     (ap (λ (x : Denied). is_for_now x.refusal) is ∙ lasts (refused_why own seat handle why e))
   where
     lasts : (why ≡ BadHandle) ⊎ (why ≡ Stranger) → is_for_now why ≡ false
@@ -390,24 +391,24 @@ stranger_lasts false why e = let is : Stranger ≡ why = cc in subst (λ (x : Re
 pub io_unwanted : (code : ℕ) (d : Denied) → d.refusal ≡ Io code → wants_room d.refusal ≡ false
 io_unwanted code d is = ap wants_room is
 
-pub io_final : (sizes : Sizes) (name : ℕ) (after : SeatSeen) (code : ℕ) (d : Denied) → d.refusal ≡ Io code
-    → IsFinal sizes name after d
-io_final sizes name after code d is = final_lasting sizes name after d (ap is_for_now is)
+pub io_final : (files : Catalog) (sizes : Sizes) (name : ℕ) (after : SeatSeen) (code : ℕ) (d : Denied) → d.refusal ≡ Io code
+    → IsFinal files sizes name after d
+io_final files sizes name after code d is = final_lasting files sizes name after d (ap is_for_now is)
 
 module _ (whole : Room) where
-  pub age_final : (sizes : Sizes) (name : ℕ) (old new : HeldSeen) (before after : SeatSeen) (d : Denied)
-      → under.IsDenied sizes name whole event.Age old new before after d → IsFinal sizes name after d
-  age_final sizes name old new before after d q = final_lasting sizes name after d (go d.refusal d.slip q)
+  pub age_final : (files : Catalog) (sizes : Sizes) (name : ℕ) (old new : HeldSeen) (before after : SeatSeen) (d : Denied)
+      → under.IsDenied files sizes name whole event.Age old new before after d → IsFinal files sizes name after d
+  age_final files sizes name old new before after d q = final_lasting files sizes name after d (go d.refusal d.slip q)
     where
-      go : (r : Refusal) (o : Option Slip) → under.DeniedBy sizes name whole event.Age old new before after r o → is_for_now r ≡ false
+      go : (r : Refusal) (o : Option Slip) → under.DeniedBy files sizes name whole event.Age old new before after r o → is_for_now r ≡ false
       go r None q = subst (λ (x : Refusal). is_for_now x ≡ false) (sym q.0) refl
       go r (Some slip) q = absurd q.step.0
 
-  pub evict_final : (sizes : Sizes) (name : ℕ) (old new : HeldSeen) (before after : SeatSeen) (d : Denied)
-      → under.IsDenied sizes name whole event.Evict old new before after d → IsFinal sizes name after d
-  evict_final sizes name old new before after d q = final_lasting sizes name after d (go d.refusal d.slip q)
+  pub evict_final : (files : Catalog) (sizes : Sizes) (name : ℕ) (old new : HeldSeen) (before after : SeatSeen) (d : Denied)
+      → under.IsDenied files sizes name whole event.Evict old new before after d → IsFinal files sizes name after d
+  evict_final files sizes name old new before after d q = final_lasting files sizes name after d (go d.refusal d.slip q)
     where
-      go : (r : Refusal) (o : Option Slip) → under.DeniedBy sizes name whole event.Evict old new before after r o → is_for_now r ≡ false
+      go : (r : Refusal) (o : Option Slip) → under.DeniedBy files sizes name whole event.Evict old new before after r o → is_for_now r ≡ false
       go r None q = subst (λ (x : Refusal). is_for_now x ≡ false) (sym q.0) refl
       go r (Some slip) q =
           elim (answered (tests old.core.state event.Evict) old.core.state event.Evict (reply.Refused r) new.core.state q.step) [
@@ -416,15 +417,15 @@ module _ (whole : Room) where
           ]
 
   -- nor does the end of a request lift the refusal of a read
-  pub read_final : (sizes : Sizes) (name : ℕ) (h : HandleId) (o n : ℕ) (old new : HeldSeen) (before after : SeatSeen) (d : Denied)
-      → under.IsDenied sizes name whole (event.Read h o n) old new before after d → IsFinal sizes name after d
-  read_final sizes name h o n old new before after d q =
-      final_lasting sizes name after d (read_lasts sizes name whole h o n old new before after d q)
+  pub read_final : (files : Catalog) (sizes : Sizes) (name : ℕ) (h : HandleId) (o n : ℕ) (old new : HeldSeen) (before after : SeatSeen) (d : Denied)
+      → under.IsDenied files sizes name whole (event.Read h o n) old new before after d → IsFinal files sizes name after d
+  read_final files sizes name h o n old new before after d q =
+      final_lasting files sizes name after d (read_lasts files sizes name whole h o n old new before after d q)
 
-at_rest : (sizes : Sizes) (name : ℕ) (e : Event) (why : Refusal) (old new : HeldSeen) (before at after : SeatSeen) (slip : Slip)
-    → Made e (reply.Refused why) old new before at slip → After sizes name new.log.history new.core.state
-    → may_pass why new.core.state ≡ false → Goes at after → IsAtRest sizes name why after slip
-at_rest sizes name e why old new before at after slip m legal rests goes =
+at_rest : (files : Catalog) (sizes : Sizes) (name : ℕ) (e : Event) (why : Refusal) (old new : HeldSeen) (before at after : SeatSeen) (slip : Slip)
+    → Made e (reply.Refused why) old new before at slip → After files sizes name new.log.history new.core.state
+    → may_pass why new.core.state ≡ false → Goes at after → IsAtRest files sizes name why after slip
+at_rest files sizes name e why old new before at after slip m legal rests goes =
     let entry : Entry = entry_of before.number e (reply.Refused why) in
     let long : length at.list ≡ slip.place + 1 =
     ap length (m.entered.sees ∙ m.entered.history) ∙ length_push old.log.history entry
@@ -436,58 +437,58 @@ at_rest sizes name e why old new before at after slip m legal rests goes =
     record {
       state = new.core.state;
       seen = omega (arith, long, more);
-      leaves = subst (λ l. After sizes name l new.core.state) (sym (there ∙ m.entered.sees)) legal;
+      leaves = subst (λ l. After files sizes name l new.core.state) (sym (there ∙ m.entered.sees)) legal;
       rests = rests;
     }
 
 module _ (whole : Room) where
   -- an event was refused, and that stands if no request is in flight
-  pub final_denied : (sizes : Sizes) (name : ℕ) (e : Event) (old new : HeldSeen) (before at after : SeatSeen) (first d : Denied)
-      → under.IsDenied sizes name whole e old new before at first → After sizes name new.log.history new.core.state → Goes at after
-      → IsFinalOr first sizes name new.core.state after d → IsFinal sizes name after d
-  final_denied sizes name e old new before at after first d q legal goes (inr final) = final
-  final_denied sizes name e old new before at after first d q legal goes (inl k) = λ passes.
+  pub final_denied : (files : Catalog) (sizes : Sizes) (name : ℕ) (e : Event) (old new : HeldSeen) (before at after : SeatSeen) (first d : Denied)
+      → under.IsDenied files sizes name whole e old new before at first → After files sizes name new.log.history new.core.state → Goes at after
+      → IsFinalOr first files sizes name new.core.state after d → IsFinal files sizes name after d
+  final_denied files sizes name e old new before at after first d q legal goes (inr final) = final
+  final_denied files sizes name e old new before at after first d q legal goes (inl k) = λ passes.
       let there = go first.refusal first.slip q (subst (λ (x : Denied). is_for_now x.refusal ≡ true) k.0 passes) k.1 in
-      subst (λ (x : Denied). (slip : Slip) × (x.slip ≡ Some slip) × IsAtRest sizes name x.refusal after slip) (sym k.0) there
+      subst (λ (x : Denied). (slip : Slip) × (x.slip ≡ Some slip) × IsAtRest files sizes name x.refusal after slip) (sym k.0) there
     where
-      go : (r : Refusal) (o : Option Slip) → under.DeniedBy sizes name whole e old new before at r o → is_for_now r ≡ true
-          → may_pass r new.core.state ≡ false → (slip : Slip) × (o ≡ Some slip) × IsAtRest sizes name r after slip
+      go : (r : Refusal) (o : Option Slip) → under.DeniedBy files sizes name whole e old new before at r o → is_for_now r ≡ true
+          → may_pass r new.core.state ≡ false → (slip : Slip) × (o ≡ Some slip) × IsAtRest files sizes name r after slip
       go r None q passes rests =
           let other : is_for_now r ≡ false = subst (λ (x : Refusal). is_for_now x ≡ false) (sym q.0) refl in absurd cc
       go r (Some slip) q passes rests = (
         slip,
         refl,
-        at_rest sizes name e r old new before at after slip q legal rests goes,
+        at_rest files sizes name e r old new before at after slip q legal rests goes,
       )
 
   -- an event was refused, in the hold that says whether a request is in flight
-  still_final : (sizes : Sizes) (name : ℕ) (e : Event) (old new : HeldSeen) (before at : SeatSeen) (first d : Denied)
-      → under.IsDenied sizes name whole e old new before at first → After sizes name new.log.history new.core.state → d ≡ first
-      → may_pass first.refusal new.core.state ≡ false → IsFinal sizes name at d
-  still_final sizes name e old new before at first d q legal same rests =
-      final_denied sizes name e old new before at at first d q legal (goes_same at at refl)
+  still_final : (files : Catalog) (sizes : Sizes) (name : ℕ) (e : Event) (old new : HeldSeen) (before at : SeatSeen) (first d : Denied)
+      → under.IsDenied files sizes name whole e old new before at first → After files sizes name new.log.history new.core.state → d ≡ first
+      → may_pass first.refusal new.core.state ≡ false → IsFinal files sizes name at d
+  still_final files sizes name e old new before at first d q legal same rests =
+      final_denied files sizes name e old new before at at first d q legal (goes_same at at refl)
       (inl (same, rests))
 
   -- of the first file to write
-  pub first_final : (sizes : Sizes) (name : ℕ) (old new : HeldSeen) (before at : SeatSeen) (first d : Denied)
-      → IsFirstDenied sizes name whole old new before at first → After sizes name new.log.history new.core.state → d ≡ first
-      → may_pass first.refusal new.core.state ≡ false → IsFinal sizes name at d
-  first_final sizes name old new before at first d q legal same rests =
-      still_final sizes name (event.FlushBegin q.file) old new before at first d q.denied legal same rests
+  pub first_final : (files : Catalog) (sizes : Sizes) (name : ℕ) (old new : HeldSeen) (before at : SeatSeen) (first d : Denied)
+      → IsFirstDenied files sizes name whole old new before at first → After files sizes name new.log.history new.core.state → d ≡ first
+      → may_pass first.refusal new.core.state ≡ false → IsFinal files sizes name at d
+  first_final files sizes name old new before at first d q legal same rests =
+      still_final files sizes name (event.FlushBegin q.file) old new before at first d q.denied legal same rests
 
   -- and of a sync's step
-  pub step_final : (sizes : Sizes) (name : ℕ) (m : SyncId) (old new : HeldSeen) (before at : SeatSeen) (first d : Denied)
-      → under.IsDenied sizes name whole (event.SyncStep m) old new before at first → After sizes name new.log.history new.core.state → d ≡ first
-      → may_pass first.refusal new.core.state ≡ false → IsFinal sizes name at d
-  step_final sizes name m old new before at first d q legal same rests =
-      still_final sizes name (event.SyncStep m) old new before at first d q legal same rests
+  pub step_final : (files : Catalog) (sizes : Sizes) (name : ℕ) (m : SyncId) (old new : HeldSeen) (before at : SeatSeen) (first d : Denied)
+      → under.IsDenied files sizes name whole (event.SyncStep m) old new before at first → After files sizes name new.log.history new.core.state → d ≡ first
+      → may_pass first.refusal new.core.state ≡ false → IsFinal files sizes name at d
+  step_final files sizes name m old new before at first d q legal same rests =
+      still_final files sizes name (event.SyncStep m) old new before at first d q legal same rests
 
 -- the seat saw more since
-pub final_on : (sizes : Sizes) (name : ℕ) (at after : SeatSeen) (d : Denied) → Goes at after → IsFinal sizes name at d
-    → IsFinal sizes name after d
-final_on sizes name at after d goes final passes = let k = final passes in (k.0, k.1, rests k.0 k.2)
+pub final_on : (files : Catalog) (sizes : Sizes) (name : ℕ) (at after : SeatSeen) (d : Denied) → Goes at after → IsFinal files sizes name at d
+    → IsFinal files sizes name after d
+final_on files sizes name at after d goes final passes = let k = final passes in (k.0, k.1, rests k.0 k.2)
   where
-    rests : (slip : Slip) → IsAtRest sizes name d.refusal at slip → IsAtRest sizes name d.refusal after slip
+    rests : (slip : Slip) → IsAtRest files sizes name d.refusal at slip → IsAtRest files sizes name d.refusal after slip
     rests slip r =
         let seen : slip.place < length at.list = r.seen in
         let there : take (slip.place + 1) after.list ≡ take (slip.place + 1) at.list =
@@ -496,18 +497,18 @@ final_on sizes name at after d goes final passes = let k = final passes in (k.0,
         record {
           state = r.state;
           seen = omega arith;
-          leaves = subst (λ l. After sizes name l r.state) (sym there) r.leaves;
+          leaves = subst (λ l. After files sizes name l r.state) (sym there) r.leaves;
           rests = r.rests;
         }
 
-pub stands_by : (sizes : Sizes) (name : ℕ) (s : State) (after : SeatSeen) (first d : Denied) → d ≡ first
-    → may_pass first.refusal s ≡ false → IsFinalOr first sizes name s after d
-stands_by sizes name s after first d same rests = inl (same, rests)
+pub stands_by : (files : Catalog) (sizes : Sizes) (name : ℕ) (s : State) (after : SeatSeen) (first d : Denied) → d ≡ first
+    → may_pass first.refusal s ≡ false → IsFinalOr first files sizes name s after d
+stands_by files sizes name s after first d same rests = inl (same, rests)
 
-pub stands_still : (sizes : Sizes) (name : ℕ) (s : State) (after : SeatSeen) (first : Denied) → is_busy s ≡ false
-    → IsFinalOr first sizes name s after first
-stands_still sizes name s after first rests = inl (refl, rests_still first.refusal s rests)
+pub stands_still : (files : Catalog) (sizes : Sizes) (name : ℕ) (s : State) (after : SeatSeen) (first : Denied) → is_busy s ≡ false
+    → IsFinalOr first files sizes name s after first
+stands_still files sizes name s after first rests = inl (refl, rests_still first.refusal s rests)
 
-pub stands_other : (sizes : Sizes) (name : ℕ) (s : State) (after : SeatSeen) (first d : Denied) → IsFinal sizes name after d
-    → IsFinalOr first sizes name s after d
-stands_other sizes name s after first d final = inr final
+pub stands_other : (files : Catalog) (sizes : Sizes) (name : ℕ) (s : State) (after : SeatSeen) (first d : Denied) → IsFinal files sizes name after d
+    → IsFinalOr first files sizes name s after d
+stands_other files sizes name s after first d final = inr final

@@ -36,6 +36,7 @@ use Rattle.pc_types.specs.declared.refusal.Refusal.TheVariants.{Stranger, TrailF
 use Rattle.trail.specs.declared.entry.Entry.{Entry}
 use Rattle.trail.specs.Entries.{end_with, entry_of, noted}
 use Rattle.pc_types.specs.Limits.{Sizes}
+use Rattle.machine.specs.Catalogs.{Catalog}
 use Rattle.trail.specs.Room.{Room}
 use Rattle.held.specs.Started.{as_fill}
 use Rattle.held.specs.declared.started.FillStarted.{FillStarted}
@@ -294,16 +295,16 @@ settles_by name e r old new a b slip begins ends m =
     (λ l is b. ends (noted_end e r (subst (λ (y : Entry). IsEnd y.event) is b)))
     (only_by (λ l. l ≡ entry_of a.number e r) e r old new a b slip refl m)
 
-module _ (sizes : Sizes) (whole : Room) where
+module _ (files : Catalog) (sizes : Sizes) (whole : Room) where
   pub settles_denied : (name : ℕ) (e : Event) (old new : HeldSeen) (a b : SeatSeen) (d : Denied) → (IsEnd e → ⊥)
-      → under.IsDenied sizes name whole e old new a b d → Settles name a b
+      → under.IsDenied files sizes name whole e old new a b d → Settles name a b
   settles_denied name e old new a b d ends q = go d.refusal d.slip q
     where
-      go : (r : Refusal) (o : Option Slip) → under.DeniedBy sizes name whole e old new a b r o → Settles name a b
+      go : (r : Refusal) (o : Option Slip) → under.DeniedBy files sizes name whole e old new a b r o → Settles name a b
       go r None q = settles_seen name a b q.1.shown.only
       go r (Some slip) q = settles_by name e (reply.Refused r) old new a b slip (λ x b. refused_begins x e r b) ends q
 
-  pub settles_first_denied : (name : ℕ) (old new : HeldSeen) (a b : SeatSeen) (d : Denied) → IsFirstDenied sizes name whole old new a b d
+  pub settles_first_denied : (name : ℕ) (old new : HeldSeen) (a b : SeatSeen) (d : Denied) → IsFirstDenied files sizes name whole old new a b d
       → Settles name a b
   settles_first_denied name old new a b d q =
       settles_denied name (event.FlushBegin q.file) old new a b d (λ is. is) q.denied
@@ -569,12 +570,12 @@ missed_by own e r old new a b slip never m =
     (λ p l is f. never p (subst (λ (y : Entry). Fills p y.event) is f))
     (only_by (λ l. l ≡ entry_of a.number e r) e r old new a b slip refl m)
 
-module _ (sizes : Sizes) (name : ℕ) (whole : Room) where
+module _ (files : Catalog) (sizes : Sizes) (name : ℕ) (whole : Room) where
   pub missed_denied : (own e : Event) (old new : HeldSeen) (a b : SeatSeen) (d : Denied)
-      → ((p : PageIndex) (r : Reply) → Fills p (noted e r) → ⊥) → under.IsDenied sizes name whole e old new a b d → FillsMissed own a b
+      → ((p : PageIndex) (r : Reply) → Fills p (noted e r) → ⊥) → under.IsDenied files sizes name whole e old new a b d → FillsMissed own a b
   missed_denied own e old new a b d never q = go d.refusal d.slip q
     where
-      go : (r : Refusal) (o : Option Slip) → under.DeniedBy sizes name whole e old new a b r o → FillsMissed own a b
+      go : (r : Refusal) (o : Option Slip) → under.DeniedBy files sizes name whole e old new a b r o → FillsMissed own a b
       go r None q = missed_seen own a b q.1.shown.only
       go r (Some slip) q = missed_by own e (reply.Refused r) old new a b slip (λ p f. never p (reply.Refused r) f) q
 
@@ -603,12 +604,12 @@ pub other_begun : (h : HandleId) (p : PageIndex) (r : Reply) (old new : HeldSeen
     → Made (event.FillBegin h p) r old new a b slip → Only (λ l. FillsNoOther p l.event) a b
 other_begun h p r old new a b slip m = other_event p (event.FillBegin h p) r old new a b slip refl m
 
-module _ (sizes : Sizes) (name : ℕ) (whole : Room) where
+module _ (files : Catalog) (sizes : Sizes) (name : ℕ) (whole : Room) where
   other_denied : (h : HandleId) (p : PageIndex) (old new : HeldSeen) (a b : SeatSeen) (d : Denied)
-      → under.IsDenied sizes name whole (event.FillBegin h p) old new a b d → Only (λ l. FillsNoOther p l.event) a b
+      → under.IsDenied files sizes name whole (event.FillBegin h p) old new a b d → Only (λ l. FillsNoOther p l.event) a b
   other_denied h p old new a b d q = go d.refusal d.slip q
     where
-      go : (r : Refusal) (o : Option Slip) → under.DeniedBy sizes name whole (event.FillBegin h p) old new a b r o → Only (λ l. FillsNoOther p l.event) a b
+      go : (r : Refusal) (o : Option Slip) → under.DeniedBy files sizes name whole (event.FillBegin h p) old new a b r o → Only (λ l. FillsNoOther p l.event) a b
       go r None q = only_any (λ l. FillsNoOther p l.event) a b q.1.shown.only
       go r (Some slip) q = other_begun h p (reply.Refused r) old new a b slip q
 
@@ -620,13 +621,13 @@ pub other_on : (p : PageIndex) (a b c : SeatSeen) → Only (λ l. IsRoomEvent l.
     → Only (λ l. FillsNoOther p l.event) a c
 other_on p a b c before only = only_on (λ l. FillsNoOther p l.event) a b c (other_room p a b before) only
 
-module _ (sizes : Sizes) (name : ℕ) (whole : Room) where
+module _ (files : Catalog) (sizes : Sizes) (name : ℕ) (whole : Room) where
   -- it was refused, and room was made
   pub other_relieved : (h : HandleId) (p : PageIndex) (old new : HeldSeen) (a b c : SeatSeen) (d : Denied)
-      → under.IsDenied sizes name whole (event.FillBegin h p) old new a b d → Only (λ l. IsRoomEvent l.event) b c
+      → under.IsDenied files sizes name whole (event.FillBegin h p) old new a b d → Only (λ l. IsRoomEvent l.event) b c
       → Only (λ l. FillsNoOther p l.event) a c
   other_relieved h p old new a b c d q room =
-      only_on (λ l. FillsNoOther p l.event) a b c (other_denied sizes name whole h p old new a b d q) (other_room p b c room)
+      only_on (λ l. FillsNoOther p l.event) a b c (other_denied files sizes name whole h p old new a b d q) (other_room p b c room)
 
 one_no_other : (name : ℕ) (x : Kind × ℕ) (p : PageIndex) (e : Event) → IsEnded name x e → FillsNoOther p e
 one_no_other name x p (event.FillBegin h q) is = absurd is

@@ -17,6 +17,7 @@ use Rattle.machine.specs.declared.event.Reply.{Reply}
 use Rattle.machine.specs.declared.event.Reply.TheVariants as reply
 use Rattle.machine.proofs.steps.Cases.{answered}
 use Rattle.pc_types.specs.Limits.{Sizes, is_geometry}
+use Rattle.machine.specs.Catalogs.{Catalog}
 use Rattle.pc_types.specs.declared.ids.PageIndex.{PageIndex}
 use Rattle.pc_types.specs.declared.limits.TheConstants.{MAX_FILE_SIZE, MAX_TOUCHED, MIN_DIRTY_LIMIT, MIN_FRAMES}
 use Rattle.pc_types.specs.declared.refusal.Refusal.{Refusal}
@@ -31,9 +32,9 @@ use Rattle.pc_types.specs.declared.ids.HandleId.{HandleId}
 
 -- ---- what every legal history leaves
 
-kept_after : (sizes : Sizes) (name : ℕ) (history : List Entry) (s : State) → IsTrue (is_geometry sizes)
-    → After sizes name history s → IsKept sizes s
-kept_after sizes name history s geometry h = legal_kept sizes name (map seatless history) s geometry h
+kept_after : (files : Catalog) (sizes : Sizes) (name : ℕ) (history : List Entry) (s : State) → IsTrue (is_geometry sizes)
+    → After files sizes name history s → IsKept sizes s
+kept_after files sizes name history s geometry h = legal_kept files sizes name (map seatless history) s geometry h.0 h.1
 
 -- ---- tests, one after another
 
@@ -135,7 +136,7 @@ tested s (event.FillBegin h p) why asked may = absurd may
 tested s (event.Truncate h z) why asked may = absurd may
 tested s e why asked may = absurd asked
 
-module _ (sizes : Sizes) (s : State) (geometry : IsTrue (is_geometry sizes)) (k : IsKept sizes s) (rests : is_busy s ≡ false)
+module _ (files : Catalog) (sizes : Sizes) (s : State) (geometry : IsTrue (is_geometry sizes)) (k : IsKept sizes s) (rests : is_busy s ≡ false)
     (none : NothingToWrite s) where
   resting : s.requests ≡ finmap.empty
   resting = finmap.empty_of_len s.requests (none_left (finmap.len s.requests) rests)
@@ -204,12 +205,12 @@ module _ (sizes : Sizes) (s : State) (geometry : IsTrue (is_geometry sizes)) (k 
   spared e why asked wants idle t = absurd asked
 
 -- an event was refused for want of room, and the cache is left at rest, without a page to let go: so it has one to write
-pub has_to_write : (sizes : Sizes) (name : ℕ) (history : List Entry) (s new : State) (e : Event) (why : Refusal)
+pub has_to_write : (files : Catalog) (sizes : Sizes) (name : ℕ) (history : List Entry) (s new : State) (e : Event) (why : Refusal)
     → IsTrue (is_geometry sizes) → IsAsked e → wants_room why ≡ true → Step s e (reply.Refused why) new
-    → After sizes name history new → is_busy new ≡ false → (why ≡ NoFrame → has_idle new ≡ false) → NothingToWrite new → ⊥
-has_to_write sizes name history s new e why geometry asked wants step legal rests idle none =
+    → After files sizes name history new → is_busy new ≡ false → (why ≡ NoFrame → has_idle new ≡ false) → NothingToWrite new → ⊥
+has_to_write files sizes name history s new e why geometry asked wants step legal rests idle none =
     elim (answered (tests s e) s e (reply.Refused why) new step) [
-      | inl a ↦ spared sizes new geometry (kept_after sizes name history new geometry legal) rests none e why asked wants idle
+      | inl a ↦ spared sizes new geometry (kept_after files sizes name history new geometry legal) rests none e why asked wants idle
           (subst (λ x. tests x e ≡ Some (reply.Refused why)) (sym a.1) a.0)
       | inr a ↦ (let x : true ≡ false = sym wants ∙ tested s e why asked a.1 in cc)
     ]

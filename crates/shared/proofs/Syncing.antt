@@ -36,6 +36,7 @@ use Rattle.held.specs.declared.denied.Denied.{Denied}
 use Rattle.held.proofs.Replied.{drop_taken}
 use Rattle.held.proofs.Seats.{goes_by}
 use Rattle.pc_types.specs.Limits.{Sizes}
+use Rattle.machine.specs.Catalogs.{Catalog}
 use Rattle.shared.specs.Called.{Makes, is_for_now}
 use Rattle.shared.specs.Denials.{IsDenied}
 use Rattle.shared.specs.Rooms.{IsFinal}
@@ -49,17 +50,17 @@ use Rattle.shared.proofs.Rooming.{final_lasting, final_on}
 
 -- ---- turns
 
-module _ (sizes : Sizes) (name : ℕ) (whole : Room) where
-  pub turn_on : (m : SyncId) (a b c : SeatSeen) (d : Denied) → Goes a b → IsDenied sizes name whole (λ e. e ≡ event.SyncStep m) b c d
-      → IsDenied sizes name whole (λ e. e ≡ event.SyncStep m) a c d
-  turn_on m a b c d p q = denied_on sizes name whole (λ e. e ≡ event.SyncStep m) (λ e. e ≡ event.SyncStep m) a b c d (λ e x. x) p q
+module _ (files : Catalog) (sizes : Sizes) (name : ℕ) (whole : Room) where
+  pub turn_on : (m : SyncId) (a b c : SeatSeen) (d : Denied) → Goes a b → IsDenied files sizes name whole (λ e. e ≡ event.SyncStep m) b c d
+      → IsDenied files sizes name whole (λ e. e ≡ event.SyncStep m) a c d
+  turn_on m a b c d p q = denied_on files sizes name whole (λ e. e ≡ event.SyncStep m) (λ e. e ≡ event.SyncStep m) a b c d (λ e x. x) p q
 
   -- without a slip it is that of a full trail
   pub step_full : (m : SyncId) (old new : HeldSeen) (before after : SeatSeen) (first d : Denied)
-      → under.IsDenied sizes name whole (event.SyncStep m) old new before after first → d ≡ first → d.slip ≡ None → d.refusal ≡ TrailFull
+      → under.IsDenied files sizes name whole (event.SyncStep m) old new before after first → d ≡ first → d.slip ≡ None → d.refusal ≡ TrailFull
   step_full m old new before after first d q same none =
       ap (λ (x : Denied). x.refusal) same
-      ∙ (full_by sizes name whole (event.SyncStep m) old new before after first q (ap (λ (x : Denied). x.slip) (sym same) ∙ none)).0
+      ∙ (full_by files sizes name whole (event.SyncStep m) old new before after first q (ap (λ (x : Denied). x.slip) (sym same) ∙ none)).0
 
 -- a step that ends the sync
 pub clean_ended : (m : SyncId) (x : SyncStepped) (b : List ℕ) (old new : HeldSeen) (before after : SeatSeen) (slip : Slip)
@@ -96,39 +97,39 @@ syncs_by h first last m failed old new before at after begin slip b e = record {
   ended = e;
 }
 
-module _ (sizes : Sizes) (name : ℕ) (whole : Room) where
+module _ (files : Catalog) (sizes : Sizes) (name : ℕ) (whole : Room) where
   -- there was no memory for it
   pub memory_denied : (h : HandleId) (first last : PageIndex) (before : SeatSeen) (why : Refusal) (d : Denied) → why ≡ Memory
-      → d ≡ record { refusal = why; slip = None } → IsNotBegun sizes name whole h first last before before d
+      → d ≡ record { refusal = why; slip = None } → IsNotBegun files sizes name whole h first last before before d
   memory_denied h first last before why d is same =
       let bare : Refusal → Denied = λ r. record { refusal = r; slip = None } in inl (same ∙ ap bare is, refl)
 
   -- its begin was refused
   pub begin_denied : (h : HandleId) (first last : PageIndex) (old new : HeldSeen) (before after : SeatSeen) (d : Denied)
-      → under.IsDenied sizes name whole (event.SyncBegin h first last) old new before after d → IsNotBegun sizes name whole h first last before after d
+      → under.IsDenied files sizes name whole (event.SyncBegin h first last) old new before after d → IsNotBegun files sizes name whole h first last before after d
   begin_denied h first last old new before after d q = inr (
-    denied_event sizes name whole (event.SyncBegin h first last) old new before after d q,
-    denied_one sizes name whole (event.SyncBegin h first last) old new before after d q,
-    full_by sizes name whole (event.SyncBegin h first last) old new before after d q,
+    denied_event files sizes name whole (event.SyncBegin h first last) old new before after d q,
+    denied_one files sizes name whole (event.SyncBegin h first last) old new before after d q,
+    full_by files sizes name whole (event.SyncBegin h first last) old new before after d q,
   )
 
 module _ (whole : Room) where
-  pub gave_up : (sizes : Sizes) (name : ℕ) (h : HandleId) (first last : PageIndex) (m : SyncId) (old new : HeldSeen) (before at over after : SeatSeen)
+  pub gave_up : (files : Catalog) (sizes : Sizes) (name : ℕ) (h : HandleId) (first last : PageIndex) (m : SyncId) (old new : HeldSeen) (before at over after : SeatSeen)
       (begin : Slip) (why d : Denied) → Made (event.SyncBegin h first last) (reply.Sync m) old new before at begin → Goes at over
-      → Goes over after → IsDenied sizes name whole (λ e. e ≡ event.SyncStep m) at over why → (why.slip ≡ None → why.refusal ≡ TrailFull)
-      → ((d ≡ why) × IsDropped m over after) ⊎ ((d ≡ record { refusal = Stranger; slip = None }) × IsGone sizes name m after)
-      → IsSyncDenied sizes name whole h first last before after d
-  gave_up sizes name h first last m old new before at over after begin why d b goes past denied full (inl p) = inr (inl record {
+      → Goes over after → IsDenied files sizes name whole (λ e. e ≡ event.SyncStep m) at over why → (why.slip ≡ None → why.refusal ≡ TrailFull)
+      → ((d ≡ why) × IsDropped m over after) ⊎ ((d ≡ record { refusal = Stranger; slip = None }) × IsGone files sizes name m after)
+      → IsSyncDenied files sizes name whole h first last before after d
+  gave_up files sizes name h first last m old new before at over after begin why d b goes past denied full (inl p) = inr (inl record {
     sync = m;
     at = at;
     over = over;
     began = began_by h first last m old new before at begin b;
     goes = goes;
-    denied = subst (IsDenied sizes name whole (λ e. e ≡ event.SyncStep m) at over) (sym p.0) denied;
+    denied = subst (IsDenied files sizes name whole (λ e. e ≡ event.SyncStep m) at over) (sym p.0) denied;
     full = subst (λ (x : Denied). x.slip ≡ None → x.refusal ≡ TrailFull) (sym p.0) full;
     dropped = p.1;
   })
-  gave_up sizes name h first last m old new before at over after begin why d b goes past denied full (inr p) = inr (inr record {
+  gave_up files sizes name h first last m old new before at over after begin why d b goes past denied full (inr p) = inr (inr record {
     sync = m;
     at = at;
     over = over;
@@ -143,14 +144,14 @@ module _ (whole : Room) where
   })
 
 -- no request was in flight where its turn was refused so that one's end might help
-pub gave_up_final : (sizes : Sizes) (name : ℕ) (m : SyncId) (over after : SeatSeen) (why d : Denied) → Goes over after
-    → IsFinal sizes name over why
-    → ((d ≡ why) × IsDropped m over after) ⊎ ((d ≡ record { refusal = Stranger; slip = None }) × IsGone sizes name m after)
-    → IsFinal sizes name after d
-gave_up_final sizes name m over after why d goes final (inl p) =
-    subst (IsFinal sizes name after) (sym p.0) (final_on sizes name over after why goes final)
-gave_up_final sizes name m over after why d goes final (inr p) =
-    final_lasting sizes name after d (subst (λ (x : Denied). is_for_now x.refusal ≡ false) (sym p.0) refl)
+pub gave_up_final : (files : Catalog) (sizes : Sizes) (name : ℕ) (m : SyncId) (over after : SeatSeen) (why d : Denied) → Goes over after
+    → IsFinal files sizes name over why
+    → ((d ≡ why) × IsDropped m over after) ⊎ ((d ≡ record { refusal = Stranger; slip = None }) × IsGone files sizes name m after)
+    → IsFinal files sizes name after d
+gave_up_final files sizes name m over after why d goes final (inl p) =
+    subst (IsFinal files sizes name after) (sym p.0) (final_on files sizes name over after why goes final)
+gave_up_final files sizes name m over after why d goes final (inr p) =
+    final_lasting files sizes name after d (subst (λ (x : Denied). is_for_now x.refusal ≡ false) (sym p.0) refl)
 
 -- ---- the drop of a sync
 
@@ -158,10 +159,10 @@ dropped_entry : (m : SyncId) (old new : HeldSeen) (before after : SeatSeen) (sli
     → Made (event.SyncDrop m) r old new before after slip → IsDropped m before after
 dropped_entry m old new before after slip r is q = (slip, r, is, makes_by (event.SyncDrop m) r old new before after slip q)
 
-pub dropped_by : (sizes : Sizes) (name : ℕ) (m : SyncId) (old new : HeldSeen) (before after : SeatSeen) (slip : Slip)
+pub dropped_by : (files : Catalog) (sizes : Sizes) (name : ℕ) (m : SyncId) (old new : HeldSeen) (before after : SeatSeen) (slip : Slip)
     (d : Denied) → Made (event.SyncDrop m) reply.Dropped old new before after slip
-    → ((d ≡ d) × IsDropped m before after) ⊎ ((d ≡ record { refusal = Stranger; slip = None }) × IsGone sizes name m after)
-dropped_by sizes name m old new before after slip d q = inl (refl, dropped_entry m old new before after slip reply.Dropped tt q)
+    → ((d ≡ d) × IsDropped m before after) ⊎ ((d ≡ record { refusal = Stranger; slip = None }) × IsGone files sizes name m after)
+dropped_by files sizes name m old new before after slip d q = inl (refl, dropped_entry m old new before after slip reply.Dropped tt q)
 
 stranger_alone : (there : Bool) (why : Refusal) → (if there then None else refuse Stranger) ≡ Some (reply.Refused why) → why ≡ Stranger
 stranger_alone true why e = absurd cc
@@ -179,33 +180,33 @@ refused_drop m why old new before after slip q =
 
 module _ (whole : Room) where
   -- where the drop was refused with a slip, its entry stands all the same
-  pub dropped_refused : (sizes : Sizes) (name : ℕ) (m : SyncId) (old new : HeldSeen) (before after : SeatSeen) (other d : Denied)
-      → under.IsDenied sizes name whole (event.SyncDrop m) old new before after other → is_some other.slip ≡ true
-      → ((d ≡ d) × IsDropped m before after) ⊎ ((d ≡ record { refusal = Stranger; slip = None }) × IsGone sizes name m after)
-  dropped_refused sizes name m old new before after other d q is = inl (refl, go other.refusal other.slip q is)
+  pub dropped_refused : (files : Catalog) (sizes : Sizes) (name : ℕ) (m : SyncId) (old new : HeldSeen) (before after : SeatSeen) (other d : Denied)
+      → under.IsDenied files sizes name whole (event.SyncDrop m) old new before after other → is_some other.slip ≡ true
+      → ((d ≡ d) × IsDropped m before after) ⊎ ((d ≡ record { refusal = Stranger; slip = None }) × IsGone files sizes name m after)
+  dropped_refused files sizes name m old new before after other d q is = inl (refl, go other.refusal other.slip q is)
     where
-      go : (r : Refusal) (o : Option Slip) → under.DeniedBy sizes name whole (event.SyncDrop m) old new before after r o → is_some o ≡ true
+      go : (r : Refusal) (o : Option Slip) → under.DeniedBy files sizes name whole (event.SyncDrop m) old new before after r o → is_some o ≡ true
           → IsDropped m before after
       go r None q is = absurd cc
       go r (Some slip) q is =
           dropped_entry m old new before after slip (reply.Refused r) (refused_drop m r old new before after slip q) q
 
-module _ (sizes : Sizes) (name : ℕ) (whole : Room) where
+module _ (files : Catalog) (sizes : Sizes) (name : ℕ) (whole : Room) where
   -- where it was refused without one, the sync was in progress no longer: room is kept for the drop of each that is
   pub gone_by : (m : SyncId) (old new : HeldSeen) (before after : SeatSeen) (other : Denied)
-      → under.IsDenied sizes name whole (event.SyncDrop m) old new before after other → is_some other.slip ≡ false
-      → (tests old.core.state (event.SyncDrop m) ≡ None → false ≡ true) → IsGone sizes name m after
+      → under.IsDenied files sizes name whole (event.SyncDrop m) old new before after other → is_some other.slip ≡ false
+      → (tests old.core.state (event.SyncDrop m) ≡ None → false ≡ true) → IsGone files sizes name m after
   gone_by m old new before after other q bare refused = go other.refusal other.slip q bare
     where
       out : (o : Option Sync) → ((if is_some o then None else refuse Stranger) ≡ None → false ≡ true) → o ≡ None
       out None h = refl
       out (Some y) h = absurd (let k : false ≡ true = h refl in cc)
 
-      go : (r : Refusal) (o : Option Slip) → under.DeniedBy sizes name whole (event.SyncDrop m) old new before after r o
-          → is_some o ≡ false → IsGone sizes name m after
+      go : (r : Refusal) (o : Option Slip) → under.DeniedBy files sizes name whole (event.SyncDrop m) old new before after r o
+          → is_some o ≡ false → IsGone files sizes name m after
       go r None q bare = record {
         state = old.core.state;
-        leaves = subst (λ l. After sizes name l old.core.state) (sym q.1.sees) q.1.leaves;
+        leaves = subst (λ l. After files sizes name l old.core.state) (sym q.1.sees) q.1.leaves;
         gone = out (map.get old.core.state.syncs m.0) refused;
       }
       go r (Some slip) q bare = absurd cc
@@ -233,27 +234,27 @@ reports_failed code slip old new p = record {
 }
 
 -- no request's end makes up for a failed write
-pub report_final : (sizes : Sizes) (name : ℕ) (after : SeatSeen) (failed : Option ℕ) (slip : Slip) (old new : PassSeen)
-    (d : Denied) → Reports failed slip old new d → IsFinal sizes name after d
-report_final sizes name after failed slip old new d r =
-    final_lasting sizes name after d (subst (λ (x : Denied). is_for_now x.refusal ≡ false) (sym r.is) refl)
+pub report_final : (files : Catalog) (sizes : Sizes) (name : ℕ) (after : SeatSeen) (failed : Option ℕ) (slip : Slip) (old new : PassSeen)
+    (d : Denied) → Reports failed slip old new d → IsFinal files sizes name after d
+report_final files sizes name after failed slip old new d r =
+    final_lasting files sizes name after d (subst (λ (x : Denied). is_for_now x.refusal ≡ false) (sym r.is) refl)
 
 module _ (whole : Room) where
-  pub write_failed : (sizes : Sizes) (name : ℕ) (h : HandleId) (first last : PageIndex) (failed : Option ℕ)
+  pub write_failed : (files : Catalog) (sizes : Sizes) (name : ℕ) (h : HandleId) (first last : PageIndex) (failed : Option ℕ)
       (before after : SeatSeen) (old new : PassSeen) (slip : Slip) (d : Denied) → Syncs h first last failed before after slip
-      → Hears sizes name slip after new → Reports failed slip old new d
-      → IsFsyncDenied sizes name whole h first last before after old new d
-  write_failed sizes name h first last failed before after old new slip d s heard r = inl (failed, slip, s, heard, r)
+      → Hears files sizes name slip after new → Reports failed slip old new d
+      → IsFsyncDenied files sizes name whole h first last before after old new d
+  write_failed files sizes name h first last failed before after old new slip d s heard r = inl (failed, slip, s, heard, r)
 
-  pub flush_failed : (sizes : Sizes) (name : ℕ) (h : HandleId) (first last : PageIndex) (before after : SeatSeen)
+  pub flush_failed : (files : Catalog) (sizes : Sizes) (name : ℕ) (h : HandleId) (first last : PageIndex) (before after : SeatSeen)
       (old new : PassSeen) (code : ℕ) (slip : Slip) → IsLevelled old new → Syncs h first last None before after slip
-      → IsFsyncDenied sizes name whole h first last before after old new (record { refusal = Io code; slip = None })
-  flush_failed sizes name h first last before after old new code slip level s = inr (inl (level, (code, slip, s, refl)))
+      → IsFsyncDenied files sizes name whole h first last before after old new (record { refusal = Io code; slip = None })
+  flush_failed files sizes name h first last before after old new code slip level s = inr (inl (level, (code, slip, s, refl)))
 
-  pub sync_denied : (sizes : Sizes) (name : ℕ) (h : HandleId) (first last : PageIndex) (before after : SeatSeen)
-      (old new : PassSeen) (d : Denied) → new ≡ old → IsSyncDenied sizes name whole h first last before after d
-      → IsFsyncDenied sizes name whole h first last before after old new d
-  sync_denied sizes name h first last before after old new d same q = inr (inr (same, q))
+  pub sync_denied : (files : Catalog) (sizes : Sizes) (name : ℕ) (h : HandleId) (first last : PageIndex) (before after : SeatSeen)
+      (old new : PassSeen) (d : Denied) → new ≡ old → IsSyncDenied files sizes name whole h first last before after d
+      → IsFsyncDenied files sizes name whole h first last before after old new d
+  sync_denied files sizes name h first last before after old new d same q = inr (inr (same, q))
 
 -- a sync that ended without a failed write, a flush after its slip, and a poll that answers nothing. The handle is seen at
 -- the call as h, and k inside it
@@ -273,16 +274,16 @@ fsync_clean result k h first last failed before after at slip mid new seen s non
 
 module _ (whole : Room) where
   -- a sync that ended with the code of a failed write
-  pub fsync_failed : (sizes : Sizes) (name : ℕ) (k h : HandleSeen) (first last : PageIndex) (failed : Option ℕ) (code : ℕ)
+  pub fsync_failed : (files : Catalog) (sizes : Sizes) (name : ℕ) (k h : HandleSeen) (first last : PageIndex) (failed : Option ℕ) (code : ℕ)
       (before after : SeatSeen) (slip : Slip) (mid new : PassSeen) (d : Denied) → k ≡ h
       → Syncs k.number first last failed before after slip → failed ≡ Some code → IsLevelled k.pass mid
-      → Hears sizes name slip after mid → Reports (Some code) slip mid new d
-      → IsFsyncDenied sizes name whole h.number first last before after h.pass new d
-  fsync_failed sizes name k h first last failed code before after slip mid new d seen s is level heard r =
-      subst (λ (x : HandleSeen). IsFsyncDenied sizes name whole x.number first last before after x.pass new d) seen
-      (write_failed whole sizes name k.number first last (Some code) before after k.pass new slip d
+      → Hears files sizes name slip after mid → Reports (Some code) slip mid new d
+      → IsFsyncDenied files sizes name whole h.number first last before after h.pass new d
+  fsync_failed files sizes name k h first last failed code before after slip mid new d seen s is level heard r =
+      subst (λ (x : HandleSeen). IsFsyncDenied files sizes name whole x.number first last before after x.pass new d) seen
+      (write_failed whole files sizes name k.number first last (Some code) before after k.pass new slip d
       (subst (λ (o : Option ℕ). Syncs k.number first last o before after slip) is s)
-      (hears_reported sizes name slip slip after mid new (Some code) d heard r)
+      (hears_reported files sizes name slip slip after mid new (Some code) d heard r)
       (reports_from (Some code) slip k.pass mid new d level r))
 
 -- the seat has seen the slip's entry
@@ -297,15 +298,15 @@ syncs_seen h first last failed before after slip s goes = (
 
 module _ (whole : Room) where
   -- a sync that ended without a failed write, and a poll that answered the code of one
-  pub fsync_denied : (result : Result Slip Denied) (sizes : Sizes) (name : ℕ) (k h : HandleSeen) (first last : PageIndex)
+  pub fsync_denied : (result : Result Slip Denied) (files : Catalog) (sizes : Sizes) (name : ℕ) (k h : HandleSeen) (first last : PageIndex)
       (failed : Option ℕ) (before after : SeatSeen) (at slip : Slip) (mid new : PassSeen) → k ≡ h
       → Syncs k.number first last failed before after slip → failed ≡ None → at ≡ slip → IsLevelled k.pass mid
-      → Hears sizes name slip after mid → IfErr result (Reports None at mid new)
-      → IfErr result (IsFsyncDenied sizes name whole h.number first last before after h.pass new)
-  fsync_denied result sizes name k h first last failed before after at slip mid new seen s none there level heard q =
-      subst (λ (x : HandleSeen). IfErr result (IsFsyncDenied sizes name whole x.number first last before after x.pass new)) seen
-      (IfErr-weaker result (Reports None at mid new) (IsFsyncDenied sizes name whole k.number first last before after k.pass new)
-      (λ d r. write_failed whole sizes name k.number first last None before after k.pass new slip d
+      → Hears files sizes name slip after mid → IfErr result (Reports None at mid new)
+      → IfErr result (IsFsyncDenied files sizes name whole h.number first last before after h.pass new)
+  fsync_denied result files sizes name k h first last failed before after at slip mid new seen s none there level heard q =
+      subst (λ (x : HandleSeen). IfErr result (IsFsyncDenied files sizes name whole x.number first last before after x.pass new)) seen
+      (IfErr-weaker result (Reports None at mid new) (IsFsyncDenied files sizes name whole k.number first last before after k.pass new)
+      (λ d r. write_failed whole files sizes name k.number first last None before after k.pass new slip d
       (subst (λ (o : Option ℕ). Syncs k.number first last o before after slip) none s)
-      (hears_reported sizes name slip at after mid new None d heard r)
+      (hears_reported files sizes name slip at after mid new None d heard r)
       (reports_from None slip k.pass mid new d level (subst (λ (x : Slip). Reports None x mid new d) there r))) q)

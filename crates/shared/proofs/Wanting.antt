@@ -12,6 +12,7 @@ use Rattle.pc_types.specs.declared.ids.HandleId.{HandleId}
 use Rattle.pc_types.specs.declared.refusal.Refusal.{Refusal}
 use Rattle.pc_types.specs.declared.refusal.Refusal.TheVariants.{BadHandle, Memory, Stranger, TrailFull}
 use Rattle.pc_types.specs.Limits.{Sizes}
+use Rattle.machine.specs.Catalogs.{Catalog}
 use Rattle.trail.specs.Room.{Room}
 use Rattle.held.specs.declared.log.Slip.{Slip}
 use Rattle.held.specs.Entered.{Made}
@@ -38,12 +39,12 @@ short_admitted own a c name seat handle why d e is short =
     other (inl x) memory = cc
     other (inr x) memory = cc
 
-module _ (sizes : Sizes) (name : ℕ) (whole : Room) where
+module _ (files : Catalog) (sizes : Sizes) (name : ℕ) (whole : Room) where
   -- an event was refused
   pub short_denied : (own e : Event) (old new : HeldSeen) (before at a c : SeatSeen) (d : Denied)
-      → under.IsDenied sizes name whole e old new before at d → IsShortFor own a c d
+      → under.IsDenied files sizes name whole e old new before at d → IsShortFor own a c d
   short_denied own e old new before at a c d q short =
-      let full : d.refusal ≡ TrailFull = (full_by sizes name whole e old new before at d q (ap (λ (x : Denied). x.slip) short)).0 in
+      let full : d.refusal ≡ TrailFull = (full_by files sizes name whole e old new before at d q (ap (λ (x : Denied). x.slip) short)).0 in
       let memory : d.refusal ≡ Memory = ap (λ (x : Denied). x.refusal) short in
       absurd cc
 
@@ -54,17 +55,17 @@ pub short_missed : (own : Event) (r : Reply) (old new : HeldSeen) (a b c : SeatS
 short_missed own r old new a b c slip d asks m goes short =
     (slip, r, asks, makes_then a b c slip own r (makes_by own r old new a b slip m) goes)
 
-module _ (sizes : Sizes) (name : ℕ) (whole : Room) where
+module _ (files : Catalog) (sizes : Sizes) (name : ℕ) (whole : Room) where
   -- a change was refused, and what came of it
   pub short_settled : (change : Change) (h : HandleId) (bytes : List ℕ) (old new : HeldSeen) (a b c : SeatSeen) (first d : Denied)
-      → under.IsDenied sizes name whole (event_of change h bytes) old new a b first → Goes b c
+      → under.IsDenied files sizes name whole (event_of change h bytes) old new a b first → Goes b c
       → (d ≡ first) ⊎ (wants_room first.refusal ≡ true) → IsShortFor (event_of change h bytes) a c d
   short_settled change h bytes old new a b c first d q goes (inl same) =
       let own = event_of change h bytes in
-      subst (IsShortFor own a c) (sym same) (short_denied sizes name whole own own old new a b a c first q)
+      subst (IsShortFor own a c) (sym same) (short_denied files sizes name whole own own old new a b a c first q)
   short_settled change h bytes old new a b c first d q goes (inr wants) = go first.refusal first.slip wants q
     where
-      go : (r : Refusal) (o : Option Slip) → wants_room r ≡ true → under.DeniedBy sizes name whole (event_of change h bytes) old new a b r o
+      go : (r : Refusal) (o : Option Slip) → wants_room r ≡ true → under.DeniedBy files sizes name whole (event_of change h bytes) old new a b r o
           → IsShortFor (event_of change h bytes) a c d
       go r None wants q =
           let other : wants_room r ≡ false = subst (λ (x : Refusal). wants_room x ≡ false) (sym q.0) refl in absurd cc

@@ -2,6 +2,7 @@
 use Rattle.std.specs.Prelude.{◌≡◌, ◌⊎◌, ◌+◌, ℕ, List, false, Option, Some, None}
 use mathlib.Core.List.{IsPrefix}
 use Rattle.pc_types.specs.Limits.{Sizes}
+use Rattle.machine.specs.Catalogs.{Catalog}
 use Rattle.pc_types.specs.declared.kind.Kind.TheVariants.{Fill}
 use Rattle.pc_types.specs.declared.refusal.Refusal.{Refusal}
 use Rattle.pc_types.specs.declared.refusal.Refusal.TheVariants.{Io, Memory, TrailFull}
@@ -27,31 +28,31 @@ Tells (event.End Fill end) (reply.Failed code) refusal = refusal ≡ Io code
 Tells e r refusal = ⊥
 
 -- the seat has seen a history past which the trail has no room for one of these events
-pub record SawFull (sizes : Sizes) (name : ℕ) (whole : Room) (own : Event → Type 0) (before after : SeatSeen) : Type 0 where
+pub record SawFull (files : Catalog) (sizes : Sizes) (name : ℕ) (whole : Room) (own : Event → Type 0) (before after : SeatSeen) : Type 0 where
   pub event : Event
   pub is : own event
   pub history : List Entry
   pub saw : IsPrefix before.list history
   pub sees : IsPrefix history after.list
   pub state : State
-  pub leaves : After sizes name history state
+  pub leaves : After files sizes name history state
   pub full : has_room (room_after whole history) (reserved state) state event ≡ false
 
 -- a refusal with a slip is what the slip's entry answers, which is of one of these events. One without is that of a trail that is
 -- full for one of them, or of memory wanted outside an event
-abbrev pub DeniedBy : Sizes → ℕ → Room → (Event → Type 0) → SeatSeen → SeatSeen → Refusal → Option Slip → Type 0
-DeniedBy sizes name whole own before after refusal None =
-    ((refusal ≡ TrailFull) × SawFull sizes name whole own before after) ⊎ (refusal ≡ Memory)
-DeniedBy sizes name whole own before after refusal (Some slip) =
+abbrev pub DeniedBy : Catalog → Sizes → ℕ → Room → (Event → Type 0) → SeatSeen → SeatSeen → Refusal → Option Slip → Type 0
+DeniedBy files sizes name whole own before after refusal None =
+    ((refusal ≡ TrailFull) × SawFull files sizes name whole own before after) ⊎ (refusal ≡ Memory)
+DeniedBy files sizes name whole own before after refusal (Some slip) =
     (e : Event) × (r : Reply) × own e × Tells e r refusal × Makes before after slip e r
 
-abbrev pub IsDenied : Sizes → ℕ → Room → (Event → Type 0) → SeatSeen → SeatSeen → Denied → Type 0
-IsDenied sizes name whole own before after d = DeniedBy sizes name whole own before after d.refusal d.slip
+abbrev pub IsDenied : Catalog → Sizes → ℕ → Room → (Event → Type 0) → SeatSeen → SeatSeen → Denied → Type 0
+IsDenied files sizes name whole own before after d = DeniedBy files sizes name whole own before after d.refusal d.slip
 
 -- refused by a trail that is full for one of these events, and by nothing else
-abbrev pub IsFullFor : Sizes → ℕ → Room → (Event → Type 0) → SeatSeen → SeatSeen → Denied → Type 0
-IsFullFor sizes name whole own before after d =
-    (d ≡ record { refusal = TrailFull; slip = None }) × SawFull sizes name whole own before after
+abbrev pub IsFullFor : Catalog → Sizes → ℕ → Room → (Event → Type 0) → SeatSeen → SeatSeen → Denied → Type 0
+IsFullFor files sizes name whole own before after d =
+    (d ≡ record { refusal = TrailFull; slip = None }) × SawFull files sizes name whole own before after
 
 -- one without a slip is that of a full trail: no event was made, and no memory is asked for outside one
 abbrev pub IsFullIfNoSlip : SeatSeen → SeatSeen → Denied → Type 0

@@ -5,6 +5,7 @@ use Rattle.blockdev.specs.Device.{Outcome, Told}
 use Rattle.deeds.specs.Shown.{AreTold}
 use Rattle.machine.specs.State.{Request, State}
 use Rattle.pc_types.specs.Limits.{Sizes}
+use Rattle.machine.specs.Catalogs.{Catalog}
 use Rattle.runs.specs.World.{World}
 use Rattle.tied.specs.Tied.{IsHonest, IsOnItsWay}
 use Rattle.trail.specs.declared.entry.Entry.{Entry}
@@ -24,10 +25,10 @@ AreBlocksOf told blocks device = AreTold told device blocks × (length blocks �
 
 -- the device is what the history makes of one with these first blocks: the history is honest over them, with this core at its
 -- end, and the device has each block as the world then has it. The block of a flush that is still in flight may have its bytes
-pub record IsLeftBy (sizes : Sizes) (name : ℕ) (blocks : List (List ℕ)) (history : List Entry) (core : State) (device : Told)
+pub record IsLeftBy (files : Catalog) (sizes : Sizes) (name : ℕ) (blocks : List (List ℕ)) (history : List Entry) (core : State) (device : Told)
     : Type 0 where
   pub world : World
-  pub honest : IsHonest sizes name blocks history world
+  pub honest : IsHonest files sizes name blocks history world
   pub core_is : world.core ≡ core
   pub left : List (List ℕ)
   pub told : device.contents ≡ Some left

@@ -1,6 +1,7 @@
 -- The events of a call.
 use Rattle.std.specs.Prelude.{◌≡◌, ◌⊎◌, ℕ, Result, Ok, Err, if◌then◌else◌, ◌==◌}
 use Rattle.pc_types.specs.Limits.{Sizes}
+use Rattle.machine.specs.Catalogs.{Catalog}
 use Rattle.pc_types.specs.declared.ids.HandleId.{HandleId}
 use Rattle.pc_types.specs.declared.refusal.Refusal.{Refusal}
 use Rattle.pc_types.specs.declared.refusal.Refusal.TheVariants.{BadHandle, Stranger}
@@ -39,8 +40,8 @@ IsEviction event.Age = Unit {0}
 IsEviction e = ⊥
 
 -- the refusal stands, or making room was refused
-abbrev pub IsStillDenied : Sizes → ℕ → Room → Denied → SeatSeen → SeatSeen → Denied → Type 0
-IsStillDenied sizes name whole first before after d = (d ≡ first) ⊎ IsDenied sizes name whole IsRoomEvent before after d
+abbrev pub IsStillDenied : Catalog → Sizes → ℕ → Room → Denied → SeatSeen → SeatSeen → Denied → Type 0
+IsStillDenied files sizes name whole first before after d = (d ≡ first) ⊎ IsDenied files sizes name whole IsRoomEvent before after d
 
 -- what a call by this handle does that is to make this event
 abbrev pub IsCallOf : HandleId → Event → Event → Type 0

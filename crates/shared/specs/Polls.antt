@@ -9,6 +9,7 @@ use Rattle.held.specs.Shown.{SeatSeen}
 use Rattle.held.specs.declared.log.Slip.{Slip}
 use Rattle.machine.specs.State.{State, file_at}
 use Rattle.pc_types.specs.Limits.{Sizes}
+use Rattle.machine.specs.Catalogs.{Catalog}
 use Rattle.trail.specs.History.{After}
 
 -- a poll and its answer. What is known then is what was recorded as the poll took effect, and all of that is done. A code
@@ -35,7 +36,7 @@ abbrev pub IsLevelled : PassSeen → PassSeen → Type 0
 IsLevelled before after = (after ≡ record before { known = after.known }) × IsPrefix before.known after.known
 
 -- the failed writes of the file, as many as the history has up to the slip's entry, are known
-pub record Hears (sizes : Sizes) (name : ℕ) (slip : Slip) (seat : SeatSeen) (pass : PassSeen) : Type 0 where
+pub record Hears (files : Catalog) (sizes : Sizes) (name : ℕ) (slip : Slip) (seat : SeatSeen) (pass : PassSeen) : Type 0 where
   pub state : State
-  pub leaves : After sizes name (take (slip.place + 1) seat.list) state
+  pub leaves : After files sizes name (take (slip.place + 1) seat.list) state
   pub known : (file_at state pass.file).failures ≤ length pass.known

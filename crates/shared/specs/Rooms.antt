@@ -16,6 +16,7 @@ use Rattle.machine.specs.declared.event.Event.TheVariants as event
 use Rattle.machine.specs.declared.event.Reply.{Reply}
 use Rattle.machine.specs.declared.event.Reply.TheVariants as reply
 use Rattle.pc_types.specs.Limits.{Sizes}
+use Rattle.machine.specs.Catalogs.{Catalog}
 use Rattle.pc_types.specs.declared.kind.Kind.TheVariants.{Flush}
 use Rattle.pc_types.specs.declared.refusal.Refusal.{Refusal}
 use Rattle.pc_types.specs.declared.refusal.Refusal.TheVariants.{DirtyLimit, Memory, NoFrame}
@@ -60,10 +61,10 @@ IsUnwritten s before after = NothingToWrite s ⊎ FailsToWrite before after
 
 -- the history up to the slip's entry leaves the cache so, and a page to write was there still: past that entry the call wrote
 -- one back itself, that write failed, and the call did nothing more
-pub record IsRoomLost (sizes : Sizes) (name : ℕ) (why : Refusal) (after : SeatSeen) (slip : Slip) : Type 0 where
+pub record IsRoomLost (files : Catalog) (sizes : Sizes) (name : ℕ) (why : Refusal) (after : SeatSeen) (slip : Slip) : Type 0 where
   pub state : State
   pub seen : slip.place < length after.list
-  pub leaves : After sizes name (take (slip.place + 1) after.list) state
+  pub leaves : After files sizes name (take (slip.place + 1) after.list) state
   pub crammed : IsCrammed why state
   pub there : NothingToWrite state → ⊥
   -- the seat when it was refused
@@ -72,10 +73,10 @@ pub record IsRoomLost (sizes : Sizes) (name : ℕ) (why : Refusal) (after : Seat
   pub failed : FailsToWrite at after
 
 -- a call is refused for want of room by such an entry alone
-abbrev pub IsLost : Sizes → ℕ → SeatSeen → Denied → Type 0
-IsLost sizes name after d =
+abbrev pub IsLost : Catalog → Sizes → ℕ → SeatSeen → Denied → Type 0
+IsLost files sizes name after d =
     wants_room d.refusal ≡ true
-    → (slip : Slip) × (d.slip ≡ Some slip) × IsRoomLost sizes name d.refusal after slip
+    → (slip : Slip) × (d.slip ≡ Some slip) × IsRoomLost files sizes name d.refusal after slip
 
 -- a reply that asks for a page or for room
 abbrev pub AsksMore : Reply → Type 0
@@ -90,18 +91,18 @@ IsShortFor e before after d =
     → (slip : Slip) × (r : Reply) × AsksMore r × Makes before after slip e r
 
 -- the history up to the slip's entry leaves no request in flight by whose end the refusal may pass
-pub record IsAtRest (sizes : Sizes) (name : ℕ) (why : Refusal) (after : SeatSeen) (slip : Slip) : Type 0 where
+pub record IsAtRest (files : Catalog) (sizes : Sizes) (name : ℕ) (why : Refusal) (after : SeatSeen) (slip : Slip) : Type 0 where
   pub state : State
   pub seen : slip.place < length after.list
-  pub leaves : After sizes name (take (slip.place + 1) after.list) state
+  pub leaves : After files sizes name (take (slip.place + 1) after.list) state
   pub rests : may_pass why state ≡ false
 
 -- a refusal that may pass when a request ends is of an entry at which no such request was in flight
-abbrev pub IsFinal : Sizes → ℕ → SeatSeen → Denied → Type 0
-IsFinal sizes name after d =
-    is_for_now d.refusal ≡ true → (slip : Slip) × (d.slip ≡ Some slip) × IsAtRest sizes name d.refusal after slip
+abbrev pub IsFinal : Catalog → Sizes → ℕ → SeatSeen → Denied → Type 0
+IsFinal files sizes name after d =
+    is_for_now d.refusal ≡ true → (slip : Slip) × (d.slip ≡ Some slip) × IsAtRest files sizes name d.refusal after slip
 
 -- the refusal stands, and no request is in flight in this state by whose end it may pass; or making room was refused
-abbrev pub IsFinalOr : Denied → Sizes → ℕ → State → SeatSeen → Denied → Type 0
-IsFinalOr first sizes name s after d =
-    ((d ≡ first) × (may_pass first.refusal s ≡ false)) ⊎ IsFinal sizes name after d
+abbrev pub IsFinalOr : Denied → Catalog → Sizes → ℕ → State → SeatSeen → Denied → Type 0
+IsFinalOr first files sizes name s after d =
+    ((d ≡ first) × (may_pass first.refusal s ≡ false)) ⊎ IsFinal files sizes name after d

@@ -12,6 +12,7 @@ use Rattle.machine.specs.declared.event.Reply.{Reply}
 use Rattle.machine.specs.declared.event.Reply.TheVariants as reply
 use Rattle.machine.specs.State.{State}
 use Rattle.pc_types.specs.Limits.{Sizes}
+use Rattle.machine.specs.Catalogs.{Catalog}
 use Rattle.pc_types.specs.declared.ids.HandleId.{HandleId}
 use Rattle.pc_types.specs.declared.ids.PageIndex.{PageIndex}
 use Rattle.pc_types.specs.declared.ids.SyncId.{SyncId}
@@ -104,32 +105,32 @@ IsDropped sync before after =
     (slip : Slip) × (r : Reply) × IsDropReply r × Makes before after slip (event.SyncDrop sync) r
 
 -- a step of a sync that this call began was refused, without a slip by a full trail alone, and the sync dropped
-pub record GaveUp (sizes : Sizes) (name : ℕ) (whole : Room) (h : HandleId) (first last : PageIndex) (before after : SeatSeen) (d : Denied)
+pub record GaveUp (files : Catalog) (sizes : Sizes) (name : ℕ) (whole : Room) (h : HandleId) (first last : PageIndex) (before after : SeatSeen) (d : Denied)
     : Type 0 where
   pub sync : SyncId
   pub at : SeatSeen
   pub over : SeatSeen
   pub began : Began h first last sync before at
   pub goes : Goes at over
-  pub denied : IsDenied sizes name whole (λ e. e ≡ event.SyncStep sync) at over d
+  pub denied : IsDenied files sizes name whole (λ e. e ≡ event.SyncStep sync) at over d
   pub full : d.slip ≡ None → d.refusal ≡ TrailFull
   pub dropped : IsDropped sync over after
 
 -- no sync was begun: there was no memory for it, and nothing was made; or its begin was refused
-abbrev pub IsNotBegun : Sizes → ℕ → Room → HandleId → PageIndex → PageIndex → SeatSeen → SeatSeen → Denied → Type 0
-IsNotBegun sizes name whole h first last before after d =
+abbrev pub IsNotBegun : Catalog → Sizes → ℕ → Room → HandleId → PageIndex → PageIndex → SeatSeen → SeatSeen → Denied → Type 0
+IsNotBegun files sizes name whole h first last before after d =
     ((d ≡ record { refusal = Memory; slip = None }) × (after ≡ before))
-    ⊎ (IsDenied sizes name whole (λ e. e ≡ event.SyncBegin h first last) before after d × MadeOne d.slip before after
+    ⊎ (IsDenied files sizes name whole (λ e. e ≡ event.SyncBegin h first last) before after d × MadeOne d.slip before after
     × IsFullIfNoSlip before after d)
 
 -- the seat saw a history after which the sync is in progress no longer
-pub record IsGone (sizes : Sizes) (name : ℕ) (sync : SyncId) (seat : SeatSeen) : Type 0 where
+pub record IsGone (files : Catalog) (sizes : Sizes) (name : ℕ) (sync : SyncId) (seat : SeatSeen) : Type 0 where
   pub state : State
-  pub leaves : After sizes name seat.list state
+  pub leaves : After files sizes name seat.list state
   pub gone : map.get state.syncs sync.0 ≡ None
 
 -- a step of a sync that this call began was refused, and the trail was full for its drop: another had ended it
-pub record WasLost (sizes : Sizes) (name : ℕ) (whole : Room) (h : HandleId) (first last : PageIndex) (before after : SeatSeen) (d : Denied)
+pub record WasLost (files : Catalog) (sizes : Sizes) (name : ℕ) (whole : Room) (h : HandleId) (first last : PageIndex) (before after : SeatSeen) (d : Denied)
     : Type 0 where
   pub sync : SyncId
   pub at : SeatSeen
@@ -137,17 +138,17 @@ pub record WasLost (sizes : Sizes) (name : ℕ) (whole : Room) (h : HandleId) (f
   pub why : Denied
   pub began : Began h first last sync before at
   pub goes : Goes at over
-  pub denied : IsDenied sizes name whole (λ e. e ≡ event.SyncStep sync) at over why
+  pub denied : IsDenied files sizes name whole (λ e. e ≡ event.SyncStep sync) at over why
   pub full : why.slip ≡ None → why.refusal ≡ TrailFull
   pub past : Goes over after
-  pub gone : IsGone sizes name sync after
+  pub gone : IsGone files sizes name sync after
   pub is : d ≡ record { refusal = Stranger; slip = None }
 
 -- no sync was begun, or the one that was is given up, or was lost
-abbrev pub IsSyncDenied : Sizes → ℕ → Room → HandleId → PageIndex → PageIndex → SeatSeen → SeatSeen → Denied → Type 0
-IsSyncDenied sizes name whole h first last before after d =
-    IsNotBegun sizes name whole h first last before after d
-    ⊎ (GaveUp sizes name whole h first last before after d ⊎ WasLost sizes name whole h first last before after d)
+abbrev pub IsSyncDenied : Catalog → Sizes → ℕ → Room → HandleId → PageIndex → PageIndex → SeatSeen → SeatSeen → Denied → Type 0
+IsSyncDenied files sizes name whole h first last before after d =
+    IsNotBegun files sizes name whole h first last before after d
+    ⊎ (GaveUp files sizes name whole h first last before after d ⊎ WasLost files sizes name whole h first last before after d)
 
 -- the refusal has the code that the poll answered, or else that of the step which ended the sync
 pub record Reports (failed : Option ℕ) (slip : Slip) (old new : PassSeen) (d : Denied) : Type 0 where
@@ -158,10 +159,10 @@ pub record Reports (failed : Option ℕ) (slip : Slip) (old new : PassSeen) (d :
   pub is : d ≡ record { refusal = Io code; slip = Some slip }
 
 -- a write of the file failed: while this call's sync was in progress, or since the handle was last told. The handle knows of it
-abbrev pub WriteFailed : Sizes → ℕ → HandleId → PageIndex → PageIndex → SeatSeen → SeatSeen → PassSeen → PassSeen → Denied
+abbrev pub WriteFailed : Catalog → Sizes → ℕ → HandleId → PageIndex → PageIndex → SeatSeen → SeatSeen → PassSeen → PassSeen → Denied
     → Type 0
-WriteFailed sizes name h first last before after old new d =
-    (failed : Option ℕ) × (slip : Slip) × Syncs h first last failed before after slip × Hears sizes name slip after new
+WriteFailed files sizes name h first last before after old new d =
+    (failed : Option ℕ) × (slip : Slip) × Syncs h first last failed before after slip × Hears files sizes name slip after new
     × Reports failed slip old new d
 
 -- this call's sync ended clean, and the device could not make its writes durable
@@ -171,9 +172,9 @@ FlushFailed h first last before after d =
     × (d ≡ record { refusal = Io code; slip = None })
 
 -- how an fsync is refused. The pass is told of what a failed write was, and of nothing else
-abbrev pub IsFsyncDenied : Sizes → ℕ → Room → HandleId → PageIndex → PageIndex → SeatSeen → SeatSeen → PassSeen → PassSeen → Denied
+abbrev pub IsFsyncDenied : Catalog → Sizes → ℕ → Room → HandleId → PageIndex → PageIndex → SeatSeen → SeatSeen → PassSeen → PassSeen → Denied
     → Type 0
-IsFsyncDenied sizes name whole h first last before after old new d =
-    WriteFailed sizes name h first last before after old new d
+IsFsyncDenied files sizes name whole h first last before after old new d =
+    WriteFailed files sizes name h first last before after old new d
     ⊎ ((IsLevelled old new × FlushFailed h first last before after d)
-    ⊎ ((new ≡ old) × IsSyncDenied sizes name whole h first last before after d))
+    ⊎ ((new ≡ old) × IsSyncDenied files sizes name whole h first last before after d))

@@ -21,6 +21,7 @@ use Rattle.machine.specs.State.{Request, State, free_frames}
 use Rattle.machine.specs.Step.{Step}
 use Rattle.machine.specs.Tests.{has_idle}
 use Rattle.pc_types.specs.Limits.{Sizes}
+use Rattle.machine.specs.Catalogs.{Catalog}
 use Rattle.pc_types.specs.declared.ids.FileId.{FileId}
 use Rattle.pc_types.specs.declared.kind.Kind.{Kind}
 use Rattle.pc_types.specs.declared.kind.Kind.TheVariants.{Flush}
@@ -109,20 +110,20 @@ abbrev pub IsOwnFailure : ℕ → TableId → FailedSeen → Type 0
 IsOwnFailure name board w = (w.cache ≡ name) × (w.receipt.board ≡ board)
 
 -- the receipt is of the file of the request of this serial, as it was in flight before the slip's entry
-pub record IsOfRequest (sizes : Sizes) (name serial : ℕ) (seat : SeatSeen) (slip : Slip) (receipt : ReceiptSeen) : Type 0 where
+pub record IsOfRequest (files : Catalog) (sizes : Sizes) (name serial : ℕ) (seat : SeatSeen) (slip : Slip) (receipt : ReceiptSeen) : Type 0 where
   pub state : State
   pub seen : slip.place < length seat.list
-  pub leaves : After sizes name (take slip.place seat.list) state
+  pub leaves : After files sizes name (take slip.place seat.list) state
   pub file : flush_of state serial ≡ Some receipt.file
 
 -- the seat began a write of a page, at the slip's entry, which answered this job. Of the state before that entry the file is
 -- the first that has a page to write, and of the state after it the job is its request's, with the bytes of its page
-pub record Begins (sizes : Sizes) (name : ℕ) (job : Task) (before after : SeatSeen) (slip : Slip) : Type 0 where
+pub record Begins (files : Catalog) (sizes : Sizes) (name : ℕ) (job : Task) (before after : SeatSeen) (slip : Slip) : Type 0 where
   pub file : FileId
   pub made : Makes before after slip (event.FlushBegin file) (reply.Job (record { 0 = job.serial }))
   pub old : State
   pub new : State
-  pub leaves : After sizes name made.earlier old
+  pub leaves : After files sizes name made.earlier old
   pub first : IsFirstToWrite old file.0
   pub step : Step old (event.FlushBegin file) (reply.Job (record { 0 = job.serial })) new
   pub own : IsFlushJob new (Ok (flush.Job job))
@@ -144,27 +145,27 @@ IsFlushBegin (event.FlushBegin file) = Unit {0}
 IsFlushBegin e = ⊥
 
 -- the seat saw a history after which no file has a page to write, and made no event
-pub record FindsNothing (sizes : Sizes) (name : ℕ) (before after : SeatSeen) : Type 0 where
+pub record FindsNothing (files : Catalog) (sizes : Sizes) (name : ℕ) (before after : SeatSeen) : Type 0 where
   pub same : after ≡ record before { list = after.list }
   pub only : Only (λ _. ⊥) before after
   pub state : State
-  pub leaves : After sizes name after.list state
+  pub leaves : After files sizes name after.list state
   pub nothing : NothingToWrite state
 
 -- the seat saw a history after which so many frames are free, or no page is idle
-pub record FindsEnough (frames : ℕ) (sizes : Sizes) (name : ℕ) (seat : SeatSeen) : Type 0 where
+pub record FindsEnough (frames : ℕ) (files : Catalog) (sizes : Sizes) (name : ℕ) (seat : SeatSeen) : Type 0 where
   pub state : State
-  pub leaves : After sizes name seat.list state
+  pub leaves : After files sizes name seat.list state
   pub enough : (frames ≤ free_frames state) ⊎ (has_idle state ≡ false)
 
 -- what a turn of a flusher did. The job of the write that it began lies in the ring, or its end was made
-abbrev pub IsFlushed : Sizes → ℕ → Worker → Worker → Flushed → Type 0
-IsFlushed sizes name old new flushed.Nothing = FindsNothing sizes name old.seat new.seat × (pushed_by new ≡ pushed_by old)
-IsFlushed sizes name old new (flushed.Pushed serial slip) =
-    (job : Task) × (job.serial ≡ serial.0) × Begins sizes name job old.seat new.seat slip
+abbrev pub IsFlushed : Catalog → Sizes → ℕ → Worker → Worker → Flushed → Type 0
+IsFlushed files sizes name old new flushed.Nothing = FindsNothing files sizes name old.seat new.seat × (pushed_by new ≡ pushed_by old)
+IsFlushed files sizes name old new (flushed.Pushed serial slip) =
+    (job : Task) × (job.serial ≡ serial.0) × Begins files sizes name job old.seat new.seat slip
     × (pushed_by new ≡ pushed_by old ++ job ∷ [])
-IsFlushed sizes name old new (flushed.Ended slip done) =
-    (job : Task) × (job.serial ≡ done.serial.0) × Begins sizes name job old.seat new.seat slip
+IsFlushed files sizes name old new (flushed.Ended slip done) =
+    (job : Task) × (job.serial ≡ done.serial.0) × Begins files sizes name job old.seat new.seat slip
     × Ends job old.seat new.seat done.slip (is_some done.failed) × (pushed_by new ≡ pushed_by old)
 
 -- how many events a turn of a flusher made
@@ -199,10 +200,10 @@ FailsOwn name board (flushed.Ended slip done) = IfSome done.failed (IsOwnFailure
 FailsOwn name board f = Unit {0}
 
 -- and of the file of the request that the turn ended
-abbrev pub FailsOf : Sizes → ℕ → SeatSeen → Flushed → Type 0
-FailsOf sizes name seat (flushed.Ended slip done) =
-    IfSome done.failed (λ w. IsOfRequest sizes name done.serial.0 seat done.slip w.receipt)
-FailsOf sizes name seat f = Unit {0}
+abbrev pub FailsOf : Catalog → Sizes → ℕ → SeatSeen → Flushed → Type 0
+FailsOf files sizes name seat (flushed.Ended slip done) =
+    IfSome done.failed (λ w. IsOfRequest files sizes name done.serial.0 seat done.slip w.receipt)
+FailsOf files sizes name seat f = Unit {0}
 
 -- each job that it took from the ring in between was ended by it
 abbrev pub AllEnded : Worker → Worker → Type 0

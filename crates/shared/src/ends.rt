@@ -47,9 +47,9 @@ impl<B: Naming, D: BlockDevice, T: Trail> SharedCache<B, D, T> {
         requires kind { job.kind ≡ Fill }
         ensures goes { Goes seat.old seat.new }
         ensures only { Only (λ e. IsHelp handle e.event) seat.old seat.new }
-        ensures denied { IfErr result (IsDenied B.sizes B.name B.whole (IsHelp handle) seat.old seat.new) }
+        ensures denied { IfErr result (IsDenied B.files B.sizes B.name B.whole (IsHelp handle) seat.old seat.new) }
         ensures unwanted { IfErr result (λ d. wants_room d.refusal ≡ false) }
-        ensures stands { IfErr result (IsFinal B.sizes B.name seat.new) }
+        ensures stands { IfErr result (IsFinal B.files B.sizes B.name seat.new) }
         ensures ends { EndsOne B.name (Fill, job.serial) seat.old seat.new }
     {
         let report = self.disk.lock(rt).carry_out(job);
@@ -124,7 +124,7 @@ pub(crate) fn carry_through<B: Naming, D: BlockDevice, T: Trail, R: Wait>(
     ensures ended { (result.serial.0 ≡ job.serial) × Ends job seat.old seat.new result.slip (is_some result.failed) }
     ensures one { MadeOne (Some result.slip) seat.old seat.new }
     ensures failed { IfSome result.failed (IsOwnFailure name B.board) }
-    ensures file { IfSome result.failed (λ w. IsOfRequest B.sizes B.name result.serial.0 seat.new result.slip w.receipt) }
+    ensures file { IfSome result.failed (λ w. IsOfRequest B.files B.sizes B.name result.serial.0 seat.new result.slip w.receipt) }
 {
     let serial = job.job().serial();
     let report = disk.lock(rt).carry_out(job);
@@ -169,7 +169,7 @@ pub(crate) fn end<B: Naming, T: Trail>(
     ensures made { (reply : Reply) × Makes seat.old seat.new result.0 (event.End report.kind (end_of report)) reply × IsEndReply reply × (is_some result.1 ≡ fails_write report.kind reply) }
     ensures one { MadeOne (Some result.0) seat.old seat.new }
     ensures own { IfSome result.1 (λ receipt. receipt.board ≡ B.board) }
-    ensures file { IfSome result.1 (IsOfRequest B.sizes B.name report.serial seat.new result.0) }
+    ensures file { IfSome result.1 (IsOfRequest B.files B.sizes B.name report.serial seat.new result.0) }
 {
     // Lends that the history is legal.
     let _ = state.core();

@@ -35,10 +35,10 @@ impl<B: Naming, D: BlockDevice, T: Trail> SharedCache<B, D, T> {
         ensures goes { Goes (seat_of worker.old) (seat_of worker.new) }
         ensures only { Only (λ e. IsEviction e.event) (seat_of worker.old) (seat_of worker.new) }
         ensures gone { IfOk result (λ n. (pages : ℕ) × LetsGo pages (seat_of worker.old) (seat_of worker.new) × (n ≡ min pages u64.MAX)) }
-        ensures enough { IfOk result (λ _. FindsEnough 16 B.sizes B.name (seat_of worker.new)) }
+        ensures enough { IfOk result (λ _. FindsEnough 16 B.files B.sizes B.name (seat_of worker.new)) }
         ensures ring { (popped_by worker.new ≡ popped_by worker.old) × (pushed_by worker.new ≡ pushed_by worker.old) }
         ensures alone { is_alone worker.new ≡ is_alone worker.old }
-        ensures denied { IfErr result (IsFullFor B.sizes B.name B.whole IsEviction (seat_of worker.old) (seat_of worker.new)) }
+        ensures denied { IfErr result (IsFullFor B.files B.sizes B.name B.whole IsEviction (seat_of worker.old) (seat_of worker.new)) }
     {
         let mut gone = 0u64;
         'pages: for _ in rt.forever() {
@@ -62,7 +62,7 @@ impl<B: Naming, D: BlockDevice, T: Trail> SharedCache<B, D, T> {
         ensures goes { Goes seat.old seat.new }
         ensures only { Only (λ _. ⊥) seat.old seat.new }
         ensures same { OnFalse result (seat.new ≡ seat.old) }
-        ensures enough { OnTrue result (FindsEnough 16 B.sizes B.name seat.new) }
+        ensures enough { OnTrue result (FindsEnough 16 B.files B.sizes B.name seat.new) }
     {
         let mut guard = self.state.lock(rt);
         if guard.core().free_frames() < SPARE_FRAMES {

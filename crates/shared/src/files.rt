@@ -37,7 +37,7 @@ impl<B: Naming, D: BlockDevice, T: Trail> SharedCache<B, D, T> {
         ensures answer { IfOk result (λ r. Makes seat.old seat.new r.1 event.Create (reply.File r.0)) }
         ensures one { IfOk result (λ r. MadeOne (Some r.1) seat.old seat.new) }
         ensures refused_once { IfErr result (λ d. MadeOne d.slip seat.old seat.new) }
-        ensures denied { seat.old.name ≡ self.now.name → IfErr result (IsDenied B.sizes B.name B.whole (λ e. e ≡ event.Create) seat.old seat.new) }
+        ensures denied { seat.old.name ≡ self.now.name → IfErr result (IsDenied B.files B.sizes B.name B.whole (λ e. e ≡ event.Create) seat.old seat.new) }
         ensures full { seat.old.name ≡ self.now.name → IfErr result (IsFullIfNoSlip seat.old seat.new) }
     {
         if seat.name() != self.name {
@@ -64,9 +64,9 @@ impl<B: Naming, D: BlockDevice, T: Trail> SharedCache<B, D, T> {
         ensures refused_once { IfErr result (λ d. MadeOne d.slip seat.old seat.new) }
         ensures handle { IfOk result (λ r. (r.0.cache ≡ self.now.name) × (r.0.file ≡ file) × (r.0.pass.board ≡ B.board)) }
         ensures begins { IfOk result (λ r. (r.0.cursor ≡ 0) × (r.0.append ≡ append)) }
-        ensures hears { IfOk result (λ r. Hears B.sizes self.now.name r.1 seat.new r.0.pass) }
+        ensures hears { IfOk result (λ r. Hears B.files B.sizes self.now.name r.1 seat.new r.0.pass) }
         ensures sampled { IfOk result (λ r. IsSampled r.0.pass) }
-        ensures denied { seat.old.name ≡ self.now.name → IfErr result (IsDenied B.sizes B.name B.whole (λ e. e ≡ event.Open file) seat.old seat.new) }
+        ensures denied { seat.old.name ≡ self.now.name → IfErr result (IsDenied B.files B.sizes B.name B.whole (λ e. e ≡ event.Open file) seat.old seat.new) }
         ensures full { seat.old.name ≡ self.now.name → IfErr result (IsFullIfNoSlip seat.old seat.new) }
     {
         if seat.name() != self.name {
@@ -104,7 +104,7 @@ impl<B: Naming, D: BlockDevice, T: Trail> SharedCache<B, D, T> {
         ensures answer { IfOk result (λ slip. Makes seat.old seat.new slip (event.Close handle.number) reply.Closed) }
         ensures one { IfOk result (λ slip. MadeOne (Some slip) seat.old seat.new) }
         ensures refused_once { IfErr result (λ d. MadeOne d.0.slip seat.old seat.new) }
-        ensures denied { seat.old.name ≡ self.now.name → handle.cache ≡ self.now.name → IfErr result (λ d. IsDenied B.sizes B.name B.whole (λ e. e ≡ event.Close handle.number) seat.old seat.new d.0) }
+        ensures denied { seat.old.name ≡ self.now.name → handle.cache ≡ self.now.name → IfErr result (λ d. IsDenied B.files B.sizes B.name B.whole (λ e. e ≡ event.Close handle.number) seat.old seat.new d.0) }
         ensures full { seat.old.name ≡ self.now.name → handle.cache ≡ self.now.name → IfErr result (λ d. IsFullIfNoSlip seat.old seat.new d.0) }
         ensures back { IfErr result (λ d. d.1 ≡ handle) }
     {
@@ -137,7 +137,7 @@ impl<B: Naming, D: BlockDevice, T: Trail> SharedCache<B, D, T> {
         ensures answer { IfOk result (λ r. Makes seat.old seat.new r.1 (event.Size handle.now.number) (reply.Size r.0)) }
         ensures one { IfOk result (λ r. MadeOne (Some r.1) seat.old seat.new) }
         ensures refused_once { IfErr result (λ d. MadeOne d.slip seat.old seat.new) }
-        ensures denied { seat.old.name ≡ self.now.name → handle.now.cache ≡ self.now.name → IfErr result (IsDenied B.sizes B.name B.whole (λ e. e ≡ event.Size handle.now.number) seat.old seat.new) }
+        ensures denied { seat.old.name ≡ self.now.name → handle.now.cache ≡ self.now.name → IfErr result (IsDenied B.files B.sizes B.name B.whole (λ e. e ≡ event.Size handle.now.number) seat.old seat.new) }
         ensures full { seat.old.name ≡ self.now.name → handle.now.cache ≡ self.now.name → IfErr result (IsFullIfNoSlip seat.old seat.new) }
     {
         if let Err(refusal) = self.admits(seat, handle) {
@@ -212,9 +212,9 @@ fn open_heard<B: Naming, T: Trail>(
     requires { seat.old.table ≡ B.table }
     ensures made { IfOk result (λ r. Made (event.Open file) (opened (Ok r.0)) state.old state.new seat.old seat.new r.2) }
     ensures pass { IfOk result (λ r. (r.1.board ≡ B.board) × (r.1.file ≡ file.0)) }
-    ensures hears { IfOk result (λ r. Hears B.sizes B.name r.2 seat.new r.1) }
+    ensures hears { IfOk result (λ r. Hears B.files B.sizes B.name r.2 seat.new r.1) }
     ensures sampled { IfOk result (λ r. IsSampled r.1) }
-    ensures denied { IfErr result (under.IsDenied B.sizes B.name B.whole (event.Open file) state.old state.new seat.old seat.new) }
+    ensures denied { IfErr result (under.IsDenied B.files B.sizes B.name B.whole (event.Open file) state.old state.new seat.old seat.new) }
 {
     let (number, mut pass, slip) = match state.open(seat, file) {
         Ok(opened) => opened,

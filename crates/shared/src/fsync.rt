@@ -56,9 +56,9 @@ impl<B: Naming, D: BlockDevice, T: Trail> SharedCache<B, D, T> {
         ensures only { OneSync handle.old.number (record { 0 = 0 }) (record { 0 = LAST_PAGE }) seat.old seat.new }
         ensures same { (handle.new ≡ record handle.old { pass = handle.new.pass }) × (handle.new.pass.board ≡ handle.old.pass.board) }
         ensures clean { IfOk result (λ slip. Syncs handle.old.number (record { 0 = 0 }) (record { 0 = LAST_PAGE }) None seat.old seat.new slip × Polled handle.old.pass handle.new.pass None) }
-        ensures hears { IfOk result (λ slip. Hears B.sizes self.now.name slip seat.new handle.new.pass) }
-        ensures denied { seat.old.name ≡ self.now.name → handle.old.cache ≡ self.now.name → IfErr result (IsFsyncDenied B.sizes self.now.name B.whole handle.old.number (record { 0 = 0 }) (record { 0 = LAST_PAGE }) seat.old seat.new handle.old.pass handle.new.pass) }
-        ensures stands { IfErr result (λ d. IsNotBegun B.sizes self.now.name B.whole handle.old.number (record { 0 = 0 }) (record { 0 = LAST_PAGE }) seat.old seat.new d ⊎ IsFinal B.sizes self.now.name seat.new d) }
+        ensures hears { IfOk result (λ slip. Hears B.files B.sizes self.now.name slip seat.new handle.new.pass) }
+        ensures denied { seat.old.name ≡ self.now.name → handle.old.cache ≡ self.now.name → IfErr result (IsFsyncDenied B.files B.sizes self.now.name B.whole handle.old.number (record { 0 = 0 }) (record { 0 = LAST_PAGE }) seat.old seat.new handle.old.pass handle.new.pass) }
+        ensures stands { IfErr result (λ d. IsNotBegun B.files B.sizes self.now.name B.whole handle.old.number (record { 0 = 0 }) (record { 0 = LAST_PAGE }) seat.old seat.new d ⊎ IsFinal B.files B.sizes self.now.name seat.new d) }
         ensures settled { Settles self.now.name seat.old seat.new }
     {
         self.fsync_range(rt, seat, handle, PageIndex(0), PageIndex(LAST_PAGE))
@@ -83,9 +83,9 @@ impl<B: Naming, D: BlockDevice, T: Trail> SharedCache<B, D, T> {
         ensures only { OneSync handle.old.number first last seat.old seat.new }
         ensures same { (handle.new ≡ record handle.old { pass = handle.new.pass }) × (handle.new.pass.board ≡ handle.old.pass.board) }
         ensures clean { IfOk result (λ slip. Syncs handle.old.number first last None seat.old seat.new slip × Polled handle.old.pass handle.new.pass None) }
-        ensures hears { IfOk result (λ slip. Hears B.sizes self.now.name slip seat.new handle.new.pass) }
-        ensures denied { seat.old.name ≡ self.now.name → handle.old.cache ≡ self.now.name → IfErr result (IsFsyncDenied B.sizes self.now.name B.whole handle.old.number first last seat.old seat.new handle.old.pass handle.new.pass) }
-        ensures stands { IfErr result (λ d. IsNotBegun B.sizes self.now.name B.whole handle.old.number first last seat.old seat.new d ⊎ IsFinal B.sizes self.now.name seat.new d) }
+        ensures hears { IfOk result (λ slip. Hears B.files B.sizes self.now.name slip seat.new handle.new.pass) }
+        ensures denied { seat.old.name ≡ self.now.name → handle.old.cache ≡ self.now.name → IfErr result (IsFsyncDenied B.files B.sizes self.now.name B.whole handle.old.number first last seat.old seat.new handle.old.pass handle.new.pass) }
+        ensures stands { IfErr result (λ d. IsNotBegun B.files B.sizes self.now.name B.whole handle.old.number first last seat.old seat.new d ⊎ IsFinal B.files B.sizes self.now.name seat.new d) }
         ensures settled { Settles self.now.name seat.old seat.new }
     {
         if let Err(refusal) = self.admits(seat, handle) {
@@ -150,12 +150,12 @@ impl<B: Naming, D: BlockDevice, T: Trail> SharedCache<B, D, T> {
         requires pass { pass.old.board ≡ B.board }
         ensures goes { Goes seat.old seat.new }
         ensures level { IsLevelled pass.old pass.new }
-        ensures hears { IfOk result (λ r. Hears B.sizes B.name r.slip seat.new pass.new) }
+        ensures hears { IfOk result (λ r. Hears B.files B.sizes B.name r.slip seat.new pass.new) }
         ensures kept { IfErr result (λ _. pass.new ≡ pass.old) }
         ensures only { OneSync handle first last seat.old seat.new }
         ensures ended { IfOk result (λ r. Syncs handle first last r.failed seat.old seat.new r.slip) }
-        ensures denied { IfErr result (IsSyncDenied B.sizes B.name B.whole handle first last seat.old seat.new) }
-        ensures stands { IfErr result (λ d. IsNotBegun B.sizes B.name B.whole handle first last seat.old seat.new d ⊎ IsFinal B.sizes B.name seat.new d) }
+        ensures denied { IfErr result (IsSyncDenied B.files B.sizes B.name B.whole handle first last seat.old seat.new) }
+        ensures stands { IfErr result (λ d. IsNotBegun B.files B.sizes B.name B.whole handle first last seat.old seat.new d ⊎ IsFinal B.files B.sizes B.name seat.new d) }
         ensures settled { Settles B.name seat.old seat.new }
     {
         let buffer = match Buffer::new(self.alloc, &self.geometry) {
@@ -188,14 +188,14 @@ impl<B: Naming, D: BlockDevice, T: Trail> SharedCache<B, D, T> {
         requires size { length buffer ≡ B.sizes.page }
         ensures goes { Goes seat.old seat.new }
         ensures level { IsLevelled pass.old pass.new }
-        ensures hears { IfOk result (λ r. Hears B.sizes B.name r.slip seat.new pass.new) }
+        ensures hears { IfOk result (λ r. Hears B.files B.sizes B.name r.slip seat.new pass.new) }
         ensures kept { IfErr result (λ _. pass.new ≡ pass.old) }
         ensures once { IfOk result (λ _. EndsOnce (IsTurnTry sync) (IsSyncOver sync) seat.old seat.new) }
         ensures tried { IfErr result (λ _. Only (IsTurnTry sync) seat.old seat.new) }
         ensures ended { IfOk result (λ r. Makes seat.old seat.new r.slip (event.SyncStep sync) (end_reply r.failed)) }
-        ensures denied { IfErr result (IsDenied B.sizes B.name B.whole (λ e. e ≡ event.SyncStep sync) seat.old seat.new) }
+        ensures denied { IfErr result (IsDenied B.files B.sizes B.name B.whole (λ e. e ≡ event.SyncStep sync) seat.old seat.new) }
         ensures full { IfErr result (λ d. d.slip ≡ None → d.refusal ≡ TrailFull) }
-        ensures stands { IfErr result (IsFinal B.sizes B.name seat.new) }
+        ensures stands { IfErr result (IsFinal B.files B.sizes B.name seat.new) }
         ensures settled { Settles B.name seat.old seat.new }
     {
         'turns: for _ in rt.forever() {
@@ -227,7 +227,7 @@ impl<B: Naming, D: BlockDevice, T: Trail> SharedCache<B, D, T> {
         requires size { length buffer ≡ B.sizes.page }
         ensures goes { Goes seat.old seat.new }
         ensures level { IsLevelled pass.old pass.new }
-        ensures hears { IfOk result (λ o. IfSome o.0 (λ r. Hears B.sizes B.name r.slip seat.new pass.new)) }
+        ensures hears { IfOk result (λ o. IfSome o.0 (λ r. Hears B.files B.sizes B.name r.slip seat.new pass.new)) }
         ensures again { IfOk result (λ o. IfNone o.0 (pass.new ≡ pass.old)) }
         ensures kept { IfErr result (λ _. pass.new ≡ pass.old) }
         ensures once { IfOk result (λ o. IfSome o.0 (λ _. EndsOnce (IsTurnTry sync) (IsSyncOver sync) seat.old seat.new)) }
@@ -235,9 +235,9 @@ impl<B: Naming, D: BlockDevice, T: Trail> SharedCache<B, D, T> {
         ensures tried { IfErr result (λ _. Only (IsTurnTry sync) seat.old seat.new) }
         ensures ended { IfOk result (λ o. IfSome o.0 (λ r. Makes seat.old seat.new r.slip (event.SyncStep sync) (end_reply r.failed))) }
         ensures back { IfOk result (λ o. length o.1 ≡ B.sizes.page) }
-        ensures denied { IfErr result (IsDenied B.sizes B.name B.whole (λ e. e ≡ event.SyncStep sync) seat.old seat.new) }
+        ensures denied { IfErr result (IsDenied B.files B.sizes B.name B.whole (λ e. e ≡ event.SyncStep sync) seat.old seat.new) }
         ensures full { IfErr result (λ d. d.slip ≡ None → d.refusal ≡ TrailFull) }
-        ensures stands { IfErr result (IsFinal B.sizes B.name seat.new) }
+        ensures stands { IfErr result (IsFinal B.files B.sizes B.name seat.new) }
         ensures settled { Settles B.name seat.old seat.new }
     {
         let mut guard = self.state.lock(rt);
@@ -277,7 +277,7 @@ impl<B: Naming, D: BlockDevice, T: Trail> SharedCache<B, D, T> {
         ensures goes { Goes seat.old seat.new }
         ensures only { Only (λ e. e.event ≡ event.SyncDrop sync) seat.old seat.new }
         ensures few { seat.new.count ≤ seat.old.count + 1 }
-        ensures dropped { ((result ≡ denied) × IsDropped sync seat.old seat.new) ⊎ ((result ≡ record { refusal = Stranger; slip = None }) × IsGone B.sizes B.name sync seat.new) }
+        ensures dropped { ((result ≡ denied) × IsDropped sync seat.old seat.new) ⊎ ((result ≡ record { refusal = Stranger; slip = None }) × IsGone B.files B.sizes B.name sync seat.new) }
     {
         let Err(other) = self.state.lock(rt).sync_drop(seat, sync) else {
             return denied;
@@ -301,7 +301,7 @@ fn over<B: Naming, T: Trail>(
     ensures same { state.new ≡ state.old }
     ensures level { IsLevelled pass.old pass.new }
     ensures known { length pass.new.known ≡ (file_at state.old.core.state pass.new.file).failures }
-    ensures legal { After B.sizes B.name state.old.log.history state.old.core.state }
+    ensures legal { After B.files B.sizes B.name state.old.log.history state.old.core.state }
 {
     state.level(pass);
     Synced { failed, slip }

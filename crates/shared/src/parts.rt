@@ -7,7 +7,8 @@ ghost use Rattle.held.specs.Shown.{AreFresh, IsFresh};
 ghost use Rattle.pc_types.specs.declared.refusal.Refusal.TheVariants.{BadConfig, Memory};
 ghost use Rattle.ring.specs.Order.{log};
 ghost use Rattle.ring.specs.Serving.{Carries, Serves};
-ghost use Rattle.machine.specs.History.{no_files};
+ghost use Rattle.catalog.specs.Cataloged as cataloged;
+ghost use Rattle.machine.specs.Catalogs.{IsCatalog, adopted, no_catalog};
 ghost use Rattle.machine.specs.PageLists.{no_lists};
 ghost use Rattle.held.specs.Keeps.{IsLocked};
 ghost use Rattle.shared.specs.Keeps.{AreBlocksOf, IsDisk};
@@ -16,6 +17,7 @@ ghost use Rattle.shared.specs.Workers.{IsWorkerOf, is_alone, popped_by, pushed_b
 use crate::cache::Parts;
 use crate::worker::Worker;
 use blockdev::BlockDevice;
+use catalog::Catalog;
 use deeds::sides;
 use held::log::Seat;
 use held::state::Opened;
@@ -37,7 +39,7 @@ pub struct Unmade<D, T> {
 impl<D: BlockDevice, T: Trail> Parts<D, T> {
     /// The parts of a cache of this name over the device, without files, and so many seats. A program that starts threads gives them to
     /// a function of its own, at `Brand`, which makes the cache by `SharedCache::of`.
-    #[tactic(auto, using(crate::proofs::Serving::idle_first))]
+    #[tactic(auto, using(crate::proofs::Serving::idle_first, crate::proofs::Serving::none_is))]
     pub fn make<R: Wait>(
         rt: &R,
         alloc: Global,
@@ -52,7 +54,8 @@ impl<D: BlockDevice, T: Trail> Parts<D, T> {
         ensures few { OnOk result ((0 < seat_count) × (seat_count ≤ 64)) }
         ensures state { IfOk result (λ r. IsLocked r.0.name r.0.held.log.table r.0.board r.0.geometry (vec_len r.1 + 1) r.0.held.log.room r.0.held) }
         ensures room { IfOk result (λ r. r.0.held.log.room ≡ T.whole trail) }
-        ensures empty { IfOk result (λ r. (r.0.held.log.history ≡ []) × (r.0.held.core ≡ record { state = no_files geometry.now name; lists = no_lists })) }
+        ensures empty { IfOk result (λ r. (r.0.held.log.history ≡ []) × (r.0.held.core ≡ record { state = adopted geometry.now name no_catalog; lists = no_lists })) }
+        ensures catalog { IsCatalog geometry.now no_catalog }
         ensures idle { IfOk result (λ r. map.len r.0.held.core.state.requests ≡ 0) }
         ensures own { IfOk result (λ r. IsWorkerOf r.0.ring r.0.name r.0.held.log.table r.0.deeds.table r.0.geometry r.0.own) }
         ensures first { IfOk result (λ r. (is_alone r.0.own ≡ true) × (popped_by r.0.own ≡ []) × (pushed_by r.0.own ≡ [])) }
@@ -90,6 +93,90 @@ impl<D: BlockDevice, T: Trail> Parts<D, T> {
             }
             Err((refusal, trail)) => Err(Unmade {
                 refusal,
+                device,
+                trail,
+            }),
+        }
+    }
+}
+
+/// What was to be among the parts of a cache over files that stand on its device, and that were not made.
+#[derive(Drop)]
+pub struct Unadopted<D, T> {
+    pub refusal: Refusal,
+    pub catalog: Catalog,
+    pub device: D,
+    pub trail: T,
+}
+
+impl<D: BlockDevice, T: Trail> Parts<D, T> {
+    /// The parts of a cache of this name over a device that has the catalog's files, and so many seats. It reads nothing. `BadConfig`: no
+    /// seats or more than 64, or the catalog is for another block size or number of blocks. `Memory`. Either way all comes back.
+    #[tactic(auto, using(crate::proofs::Serving::idle_first))]
+    pub fn over<R: Wait>(
+        rt: &R,
+        alloc: Global,
+        geometry: &Geometry,
+        name: u64,
+        catalog: Catalog,
+        device: D,
+        trail: T,
+        seat_count: u64,
+    ) -> Result<(Parts<D, T>, Vec<Seat>), Unadopted<D, T>>
+        requires { IsDisk geometry.now (D.told device) }
+        ensures named { IfOk result (λ r. (r.0.name ≡ name) × (r.0.geometry ≡ geometry.now)) }
+        ensures few { OnOk result ((0 < seat_count) × (seat_count ≤ 64)) }
+        ensures state { IfOk result (λ r. IsLocked r.0.name r.0.held.log.table r.0.board r.0.geometry (vec_len r.1 + 1) r.0.held.log.room r.0.held) }
+        ensures room { IfOk result (λ r. r.0.held.log.room ≡ T.whole trail) }
+        ensures adopted { IfOk result (λ r. (r.0.held.log.history ≡ []) × (r.0.held.core ≡ record { state = adopted geometry.now name catalog.files; lists = no_lists })) }
+        ensures catalog { IfOk result (λ _. IsCatalog geometry.now catalog.files) }
+        ensures idle { IfOk result (λ r. map.len r.0.held.core.state.requests ≡ 0) }
+        ensures own { IfOk result (λ r. IsWorkerOf r.0.ring r.0.name r.0.held.log.table r.0.deeds.table r.0.geometry r.0.own) }
+        ensures first { IfOk result (λ r. (is_alone r.0.own ≡ true) × (popped_by r.0.own ≡ []) × (pushed_by r.0.own ≡ [])) }
+        ensures seated { IfOk result (λ r. IsFresh r.0.held.log.table name (seat_of r.0.own) seat_count) }
+        ensures told { IfOk result (λ r. r.0.deeds.told ≡ is_some (D.told device).contents) }
+        ensures blocks { IfOk result (λ r. AreBlocksOf r.0.deeds.told r.0.deeds.blocks (D.told device)) }
+        ensures device { IfOk result (λ r. r.0.device ≡ device) }
+        ensures seats { IfOk result (λ r. (vec_len r.1 ≡ seat_count) × AreFresh r.0.held.log.table r.0.name r.1.items) }
+        ensures refused { IfErr result (λ e. e.refusal ≡ (if nat_lt 0 seat_count && nat_le seat_count 64 && cataloged.fits geometry.now catalog then Memory else BadConfig)) }
+        ensures back { IfErr result (λ e. (e.catalog ≡ catalog) × (e.device ≡ device) × (e.trail ≡ trail)) }
+    {
+        if !catalog.is_for(geometry) {
+            return Err(Unadopted {
+                refusal: Refusal::BadConfig,
+                catalog,
+                device,
+                trail,
+            });
+        }
+        let (ring, pass, deeds) = match ring_over(rt, alloc, &device, name, geometry, seat_count) {
+            Ok(made) => made,
+            Err(refusal) => {
+                return Err(Unadopted {
+                    refusal,
+                    catalog,
+                    device,
+                    trail,
+                });
+            }
+        };
+        match Opened::over(alloc, geometry, name, catalog, trail, seat_count) {
+            Ok((held, board, seats, own)) => {
+                let parts = Parts {
+                    name,
+                    geometry: *geometry,
+                    held,
+                    board,
+                    ring,
+                    own: Worker::new(own, pass),
+                    device,
+                    deeds,
+                };
+                Ok((parts, seats))
+            }
+            Err((refusal, catalog, trail)) => Err(Unadopted {
+                refusal,
+                catalog,
                 device,
                 trail,
             }),

@@ -40,12 +40,12 @@ impl<B: Naming, D: BlockDevice, T: Trail> SharedCache<B, D, T> {
         ensures only { IfErr result (λ _. Only (IsTry handle.old.number (event.Read handle.old.number handle.old.cursor (length out.old))) seat.old seat.new) }
         ensures once { IfOk result (λ _. Once (IsTry handle.old.number (event.Read handle.old.number handle.old.cursor (length out.old))) seat.old seat.new) }
         ensures answer { IfOk result (λ r. Makes seat.old seat.new r.1 (event.Read handle.old.number handle.old.cursor (length out.old)) (reply.Bytes (take r.0 out.new))) }
-        ensures denied { seat.old.name ≡ self.now.name → handle.old.cache ≡ self.now.name → IfErr result (IsDenied B.sizes B.name B.whole (IsCallOf handle.old.number (event.Read handle.old.number handle.old.cursor (length out.old))) seat.old seat.new) }
-        ensures lost { IfErr result (IsLost B.sizes self.now.name seat.new) }
+        ensures denied { seat.old.name ≡ self.now.name → handle.old.cache ≡ self.now.name → IfErr result (IsDenied B.files B.sizes B.name B.whole (IsCallOf handle.old.number (event.Read handle.old.number handle.old.cursor (length out.old))) seat.old seat.new) }
+        ensures lost { IfErr result (IsLost B.files B.sizes self.now.name seat.new) }
         ensures count { IfOk result (λ r. r.0 ≤ length out.old) }
         ensures rest { drop (count_in result) out.new ≡ drop (count_in result) out.old }
         ensures cursor { handle.new ≡ record handle.old { cursor = handle.old.cursor + count_in result } }
-        ensures stands { IfErr result (IsFinal B.sizes self.now.name seat.new) }
+        ensures stands { IfErr result (IsFinal B.files B.sizes self.now.name seat.new) }
         ensures wanting { IfErr result (IsShortFor (event.Read handle.old.number handle.old.cursor (length out.old)) seat.old seat.new) }
         ensures settled { Settles self.now.name seat.old seat.new }
         ensures missed { FillsMissed (event.Read handle.old.number handle.old.cursor (length out.old)) seat.old seat.new }
@@ -78,12 +78,12 @@ impl<B: Naming, D: BlockDevice, T: Trail> SharedCache<B, D, T> {
         ensures only { IfErr result (λ _. Only (IsTry handle.now.number (event.Read handle.now.number offset (length out.old))) seat.old seat.new) }
         ensures once { IfOk result (λ _. Once (IsTry handle.now.number (event.Read handle.now.number offset (length out.old))) seat.old seat.new) }
         ensures answer { IfOk result (λ r. Makes seat.old seat.new r.1 (event.Read handle.now.number offset (length out.old)) (reply.Bytes (take r.0 out.new))) }
-        ensures denied { seat.old.name ≡ self.now.name → handle.now.cache ≡ self.now.name → IfErr result (IsDenied B.sizes B.name B.whole (IsCallOf handle.now.number (event.Read handle.now.number offset (length out.old))) seat.old seat.new) }
-        ensures lost { IfErr result (IsLost B.sizes self.now.name seat.new) }
+        ensures denied { seat.old.name ≡ self.now.name → handle.now.cache ≡ self.now.name → IfErr result (IsDenied B.files B.sizes B.name B.whole (IsCallOf handle.now.number (event.Read handle.now.number offset (length out.old))) seat.old seat.new) }
+        ensures lost { IfErr result (IsLost B.files B.sizes self.now.name seat.new) }
         ensures count { IfOk result (λ r. r.0 ≤ length out.old) }
         ensures rest { drop (count_in result) out.new ≡ drop (count_in result) out.old }
         ensures within { offset ≤ MAX_FILE_SIZE → offset + count_in result ≤ MAX_FILE_SIZE }
-        ensures stands { IfErr result (IsFinal B.sizes self.now.name seat.new) }
+        ensures stands { IfErr result (IsFinal B.files B.sizes self.now.name seat.new) }
         ensures wanting { IfErr result (IsShortFor (event.Read handle.now.number offset (length out.old)) seat.old seat.new) }
         ensures settled { Settles self.now.name seat.old seat.new }
         ensures missed { FillsMissed (event.Read handle.now.number offset (length out.old)) seat.old seat.new }
@@ -119,15 +119,15 @@ impl<B: Naming, D: BlockDevice, T: Trail> SharedCache<B, D, T> {
         ensures tried { IfOk result (λ o. IfNone o (Only (IsTry handle (event.Read handle offset (length out.old))) seat.old seat.new)) }
         ensures once { IfOk result (λ o. IfSome o (λ _. Once (IsTry handle (event.Read handle offset (length out.old))) seat.old seat.new)) }
         ensures answer { IfOk result (λ o. IfSome o (λ r. Makes seat.old seat.new r.1 (event.Read handle offset (length out.old)) (reply.Bytes (take r.0 out.new)))) }
-        ensures denied { IfErr result (IsDenied B.sizes B.name B.whole (IsCallOf handle (event.Read handle offset (length out.old))) seat.old seat.new) }
-        ensures lost { IfErr result (IsLost B.sizes B.name seat.new) }
+        ensures denied { IfErr result (IsDenied B.files B.sizes B.name B.whole (IsCallOf handle (event.Read handle offset (length out.old))) seat.old seat.new) }
+        ensures lost { IfErr result (IsLost B.files B.sizes B.name seat.new) }
         ensures count { IfOk result (λ o. IfSome o (λ r. r.0 ≤ length out.old)) }
         ensures rest { IfOk result (λ o. IfSome o (λ r. drop r.0 out.new ≡ drop r.0 out.old)) }
         ensures within { IfOk result (λ o. IfSome o (λ r. offset ≤ MAX_FILE_SIZE → offset + r.0 ≤ MAX_FILE_SIZE)) }
         ensures same { IfOk result (λ o. IfNone o (out.new ≡ out.old)) }
         ensures kept { IfErr result (λ _. out.new ≡ out.old) }
         ensures again { IfOk result (λ o. IfNone o (Retries seat.old seat.new (event.Read handle offset (length out.old)))) }
-        ensures stands { IfErr result (IsFinal B.sizes B.name seat.new) }
+        ensures stands { IfErr result (IsFinal B.files B.sizes B.name seat.new) }
         ensures wanting { IfErr result (IsShortFor (event.Read handle offset (length out.old)) seat.old seat.new) }
         ensures settled { Settles B.name seat.old seat.new }
         ensures missed { FillsMissed (event.Read handle offset (length out.old)) seat.old seat.new }

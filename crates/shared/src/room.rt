@@ -52,9 +52,9 @@ impl<B: Naming, D: BlockDevice, T: Trail> SharedCache<B, D, T> {
         requires { seat.old.table ≡ B.table }
         ensures goes { Goes seat.old seat.new }
         ensures only { Only (λ e. IsHelp span.handle e.event) seat.old seat.new }
-        ensures denied { IfErr result (IsDenied B.sizes B.name B.whole (IsHelp span.handle) seat.old seat.new) }
-        ensures lost { IfErr result (IsLost B.sizes B.name seat.new) }
-        ensures stands { IfErr result (IsFinal B.sizes B.name seat.new) }
+        ensures denied { IfErr result (IsDenied B.files B.sizes B.name B.whole (IsHelp span.handle) seat.old seat.new) }
+        ensures lost { IfErr result (IsLost B.files B.sizes B.name seat.new) }
+        ensures stands { IfErr result (IsFinal B.files B.sizes B.name seat.new) }
         ensures settled { Settles B.name seat.old seat.new }
         ensures page { Only (λ e. FillsNoOther page e.event) seat.old seat.new }
     {
@@ -76,9 +76,9 @@ impl<B: Naming, D: BlockDevice, T: Trail> SharedCache<B, D, T> {
         requires { seat.old.table ≡ B.table }
         ensures goes { Goes seat.old seat.new }
         ensures only { Only (λ e. IsHelp handle e.event) seat.old seat.new }
-        ensures denied { IfErr result (IsDenied B.sizes B.name B.whole (IsHelp handle) seat.old seat.new) }
-        ensures lost { IfErr result (IsLost B.sizes B.name seat.new) }
-        ensures stands { IfErr result (IsFinal B.sizes B.name seat.new) }
+        ensures denied { IfErr result (IsDenied B.files B.sizes B.name B.whole (IsHelp handle) seat.old seat.new) }
+        ensures lost { IfErr result (IsLost B.files B.sizes B.name seat.new) }
+        ensures stands { IfErr result (IsFinal B.files B.sizes B.name seat.new) }
         ensures settled { Settles B.name seat.old seat.new }
         ensures page { Only (λ e. FillsNoOther page e.event) seat.old seat.new }
     {
@@ -110,9 +110,9 @@ impl<B: Naming, D: BlockDevice, T: Trail> SharedCache<B, D, T> {
         requires { seat.old.table ≡ B.table }
         ensures goes { Goes seat.old seat.new }
         ensures only { Only (λ e. IsRoomEvent e.event) seat.old seat.new }
-        ensures denied { IfErr result (IsDenied B.sizes B.name B.whole IsRoomEvent seat.old seat.new) }
+        ensures denied { IfErr result (IsDenied B.files B.sizes B.name B.whole IsRoomEvent seat.old seat.new) }
         ensures unwanted { IfErr result (λ d. wants_room d.refusal ≡ false) }
-        ensures stands { IfErr result (IsFinal B.sizes B.name seat.new) }
+        ensures stands { IfErr result (IsFinal B.files B.sizes B.name seat.new) }
         ensures settled { Settles B.name seat.old seat.new }
     {
         'turns: for _ in rt.forever() {
@@ -145,14 +145,14 @@ impl<B: Naming, D: BlockDevice, T: Trail> SharedCache<B, D, T> {
         requires { seat.old.table ≡ B.table }
         ensures goes { Goes seat.old seat.new }
         ensures only { Only (λ e. IsRoomEvent e.event) seat.old seat.new }
-        ensures denied { IfErr result (IsStillDenied B.sizes B.name B.whole denied seat.old seat.new) }
+        ensures denied { IfErr result (IsStillDenied B.files B.sizes B.name B.whole denied seat.old seat.new) }
         ensures passing { IfOk result (λ _. is_for_now denied.refusal ≡ true) }
         ensures other { IfErr result (λ d. (d ≡ denied) ⊎ (wants_room denied.refusal ≡ true)) }
         ensures quiet { wants_room denied.refusal ≡ false → seat.new ≡ seat.old }
         ensures crammed { IfErr result (λ d. wants_room d.refusal ≡ true → (d ≡ denied) × IsCrammed d.refusal (mutex_guard_value guard.entry).core.state × IsUnwritten (mutex_guard_value guard.entry).core.state seat.old seat.new) }
-        ensures legal { After B.sizes B.name (mutex_guard_value guard.entry).log.history (mutex_guard_value guard.entry).core.state }
-        ensures within { IsTrue (is_geometry B.sizes) }
-        ensures stands { IfErr result (IsFinalOr denied B.sizes B.name (mutex_guard_value guard.entry).core.state seat.new) }
+        ensures legal { After B.files B.sizes B.name (mutex_guard_value guard.entry).log.history (mutex_guard_value guard.entry).core.state }
+        ensures within { IsTrue (is_geometry B.files B.sizes) }
+        ensures stands { IfErr result (IsFinalOr denied B.files B.sizes B.name (mutex_guard_value guard.entry).core.state seat.new) }
         ensures settled { Settles B.name seat.old seat.new }
     {
         // Lend that the history is legal, and that the sizes are within their limits.
@@ -182,12 +182,12 @@ impl<B: Naming, D: BlockDevice, T: Trail> SharedCache<B, D, T> {
         requires { seat.old.table ≡ B.table }
         ensures goes { Goes seat.old seat.new }
         ensures only { Only (λ e. IsRoomEvent e.event) seat.old seat.new }
-        ensures denied { IfErr result (IsDenied B.sizes B.name B.whole IsRoomEvent seat.old seat.new) }
+        ensures denied { IfErr result (IsDenied B.files B.sizes B.name B.whole IsRoomEvent seat.old seat.new) }
         ensures unwanted { IfErr result (λ d. wants_room d.refusal ≡ false) }
         ensures still { IfOk result (λ made. made ≡ false → is_busy (mutex_guard_value guard.entry).core.state ≡ false) }
         ensures unwritten { IfOk result (λ made. made ≡ false → IsUnwritten (mutex_guard_value guard.entry).core.state seat.old seat.new) }
         ensures idle { IfOk result (λ made. made ≡ false → (n : ℕ) → want ≡ Frames n → has_idle (mutex_guard_value guard.entry).core.state ≡ false) }
-        ensures stands { IfErr result (IsFinal B.sizes B.name seat.new) }
+        ensures stands { IfErr result (IsFinal B.files B.sizes B.name seat.new) }
         ensures settled { Settles B.name seat.old seat.new }
     {
         match want {
@@ -207,12 +207,12 @@ impl<B: Naming, D: BlockDevice, T: Trail> SharedCache<B, D, T> {
         requires { seat.old.table ≡ B.table }
         ensures goes { Goes seat.old seat.new }
         ensures only { Only (λ e. IsRoomEvent e.event) seat.old seat.new }
-        ensures denied { IfErr result (IsDenied B.sizes B.name B.whole IsRoomEvent seat.old seat.new) }
+        ensures denied { IfErr result (IsDenied B.files B.sizes B.name B.whole IsRoomEvent seat.old seat.new) }
         ensures unwanted { IfErr result (λ d. wants_room d.refusal ≡ false) }
         ensures still { IfOk result (λ made. made ≡ false → is_busy (mutex_guard_value guard.entry).core.state ≡ false) }
         ensures unwritten { IfOk result (λ made. made ≡ false → IsUnwritten (mutex_guard_value guard.entry).core.state seat.old seat.new) }
         ensures idle { IfOk result (λ made. made ≡ false → has_idle (mutex_guard_value guard.entry).core.state ≡ false) }
-        ensures stands { IfErr result (IsFinal B.sizes B.name seat.new) }
+        ensures stands { IfErr result (IsFinal B.files B.sizes B.name seat.new) }
         ensures settled { Settles B.name seat.old seat.new }
     {
         match evict_idle(&mut guard, seat) {
@@ -234,11 +234,11 @@ impl<B: Naming, D: BlockDevice, T: Trail> SharedCache<B, D, T> {
         requires { seat.old.table ≡ B.table }
         ensures goes { Goes seat.old seat.new }
         ensures only { Only (λ e. IsRoomEvent e.event) seat.old seat.new }
-        ensures denied { IfErr result (IsDenied B.sizes B.name B.whole IsRoomEvent seat.old seat.new) }
+        ensures denied { IfErr result (IsDenied B.files B.sizes B.name B.whole IsRoomEvent seat.old seat.new) }
         ensures unwanted { IfErr result (λ d. wants_room d.refusal ≡ false) }
         ensures still { IfOk result (λ made. made ≡ false → is_busy (mutex_guard_value guard.entry).core.state ≡ false) }
         ensures unwritten { IfOk result (λ made. made ≡ false → IsUnwritten (mutex_guard_value guard.entry).core.state seat.old seat.new) }
-        ensures stands { IfErr result (IsFinal B.sizes B.name seat.new) }
+        ensures stands { IfErr result (IsFinal B.files B.sizes B.name seat.new) }
         ensures settled { Settles B.name seat.old seat.new }
     {
         let was_busy = guard.core().is_busy();
@@ -267,8 +267,8 @@ impl<B: Naming, D: BlockDevice, T: Trail> SharedCache<B, D, T> {
         ensures goes { Goes seat.old seat.new }
         ensures only { Only (λ e. IsEviction e.event) seat.old seat.new }
         ensures gone { IfOk result (λ went. LetsGo (if went then 1 else 0) seat.old seat.new) }
-        ensures none { IfOk result (λ went. went ≡ false → FindsEnough 16 B.sizes B.name seat.new) }
-        ensures denied { IfErr result (IsFullFor B.sizes B.name B.whole IsEviction seat.old seat.new) }
+        ensures none { IfOk result (λ went. went ≡ false → FindsEnough 16 B.files B.sizes B.name seat.new) }
+        ensures denied { IfErr result (IsFullFor B.files B.sizes B.name B.whole IsEviction seat.old seat.new) }
     {
         evict_idle(&mut self.state.lock(rt), seat)
     }
@@ -281,11 +281,11 @@ fn evict_idle<B: Naming, T: Trail>(state: &mut Held<B, T>, seat: &mut Seat) -> R
     ensures goes { Goes seat.old seat.new }
     ensures only { Only (λ e. IsEviction e.event) seat.old seat.new }
     ensures gone { IfOk result (λ went. LetsGo (if went then 1 else 0) seat.old seat.new) }
-    ensures denied { IfErr result (IsFullFor B.sizes B.name B.whole IsEviction seat.old seat.new) }
+    ensures denied { IfErr result (IsFullFor B.files B.sizes B.name B.whole IsEviction seat.old seat.new) }
     ensures unwanted { IfErr result (λ d. wants_room d.refusal ≡ false) }
-    ensures found { IfOk result (λ went. went ≡ false → FindsEnough 16 B.sizes B.name seat.new) }
+    ensures found { IfOk result (λ went. went ≡ false → FindsEnough 16 B.files B.sizes B.name seat.new) }
     ensures none { IfOk result (λ went. went ≡ false → (has_idle state.old.core.state ≡ false) × (state.new.core.state ≡ state.old.core.state)) }
-    ensures stands { IfErr result (IsFinal B.sizes B.name seat.new) }
+    ensures stands { IfErr result (IsFinal B.files B.sizes B.name seat.new) }
 {
     if let Err(denied) = state.age(seat) {
         return Err(denied);

@@ -33,7 +33,7 @@ impl<B: Naming, D: BlockDevice, T: Trail> SharedCache<B, D, T> {
         ensures closed { seat.old.name ≡ self.now.name → handle.old.cache ≢ self.now.name → (result ≡ Err (record { refusal = BadHandle; slip = None })) × (seat.new ≡ seat.old) }
         ensures goes { Goes seat.old seat.new }
         ensures only { Only (λ e. e.event ≡ event.Size handle.old.number) seat.old seat.new }
-        ensures sought { seat.old.name ≡ self.now.name → handle.old.cache ≡ self.now.name → Seeks B.sizes B.name B.whole place handle.old seat.old seat.new result }
+        ensures sought { seat.old.name ≡ self.now.name → handle.old.cache ≡ self.now.name → Seeks B.files B.sizes B.name B.whole place handle.old seat.old seat.new result }
         ensures cursor { handle.new ≡ record handle.old { cursor = place_after handle.old.cursor result } }
     {
         if let Err(refusal) = self.admits(seat, handle) {

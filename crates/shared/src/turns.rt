@@ -49,7 +49,7 @@ impl<B: Naming, D: BlockDevice, T: Trail> SharedCache<B, D, T> {
         ensures emptied { IfNone result (fifo.Held 0 (Stands (view worker.new.pass))) }
         ensures ended { IfSome result (λ d. (job : Task) × (popped_by worker.new ≡ popped_by worker.old ++ job ∷ []) × (d.serial.0 ≡ job.serial) × Ends job (seat_of worker.old) (seat_of worker.new) d.slip (is_some d.failed) × IfSome d.failed (IsOwnFailure self.now.name B.board)) }
         ensures one { IfSome result (λ d. MadeOne (Some d.slip) (seat_of worker.old) (seat_of worker.new)) }
-        ensures file { IfSome result (λ d. IfSome d.failed (λ w. IsOfRequest B.sizes B.name d.serial.0 (seat_of worker.new) d.slip w.receipt)) }
+        ensures file { IfSome result (λ d. IfSome d.failed (λ w. IsOfRequest B.files B.sizes B.name d.serial.0 (seat_of worker.new) d.slip w.receipt)) }
         ensures passed { IfSome result (λ d. G.passed gate.now d.serial.0) }
     {
         let job = take(rt, &self.ring, &mut worker.pass)?;
@@ -74,12 +74,12 @@ impl<B: Naming, D: BlockDevice, T: Trail> SharedCache<B, D, T> {
         ensures own { EndsOwn B.name (seat_of worker.old) (seat_of worker.new) }
         ensures popped { popped_by worker.new ≡ popped_by worker.old }
         ensures alone { is_alone worker.new ≡ is_alone worker.old }
-        ensures done { IfOk result (IsFlushed B.sizes B.name worker.old worker.new) }
+        ensures done { IfOk result (IsFlushed B.files B.sizes B.name worker.old worker.new) }
         ensures carried { AllCarried worker.old worker.new }
         ensures count { IfOk result (λ f. (seat_of worker.new).count ≡ (seat_of worker.old).count + entered_in f) }
         ensures failed { IfOk result (λ f. FailsOwn self.now.name B.board f) }
-        ensures file { IfOk result (λ f. FailsOf B.sizes B.name (seat_of worker.new) f) }
-        ensures denied { IfErr result (IsDenied B.sizes B.name B.whole IsFlushBegin (seat_of worker.old) (seat_of worker.new)) }
+        ensures file { IfOk result (λ f. FailsOf B.files B.sizes B.name (seat_of worker.new) f) }
+        ensures denied { IfErr result (IsDenied B.files B.sizes B.name B.whole IsFlushBegin (seat_of worker.old) (seat_of worker.new)) }
         ensures unbegun { IfErr result (λ d. (pushed_by worker.new ≡ pushed_by worker.old) × MadeOne d.slip (seat_of worker.old) (seat_of worker.new)) }
     {
         let (job, slip) = match self.begin_flush(rt, &mut worker.seat) {
@@ -106,13 +106,13 @@ impl<B: Naming, D: BlockDevice, T: Trail> SharedCache<B, D, T> {
         requires { seat.old.table ≡ B.table }
         ensures goes { Goes seat.old seat.new }
         ensures only { Only (λ e. IsFlushBegin e.event) seat.old seat.new }
-        ensures idle { IfOk result (λ o. IfNone o (FindsNothing B.sizes B.name seat.old seat.new)) }
+        ensures idle { IfOk result (λ o. IfNone o (FindsNothing B.files B.sizes B.name seat.old seat.new)) }
         ensures one { IfOk result (λ o. IfSome o (λ r. MadeOne (Some r.1) seat.old seat.new)) }
-        ensures begun { IfOk result (λ o. IfSome o (λ r. Begins B.sizes B.name r.0 seat.old seat.new r.1)) }
+        ensures begun { IfOk result (λ o. IfSome o (λ r. Begins B.files B.sizes B.name r.0 seat.old seat.new r.1)) }
         ensures alone { IfOk result (λ o. IfSome o (λ r. Only (λ e. OnBegun (λ t. t ≡ r.0.serial) e.event e.reply) seat.old seat.new)) }
         ensures write { IfOk result (λ o. IfSome o (λ r. Only (λ e. IsBegun (r.0.kind, r.0.serial) e.event e.reply) seat.old seat.new)) }
         ensures fits { IfOk result (λ o. IfSome o (λ r. IsJobFor B.name B.sizes.blocks B.sizes.page r.0)) }
-        ensures denied { IfErr result (IsDenied B.sizes B.name B.whole IsFlushBegin seat.old seat.new) }
+        ensures denied { IfErr result (IsDenied B.files B.sizes B.name B.whole IsFlushBegin seat.old seat.new) }
         ensures unbegun { IfErr result (λ d. MadeOne d.slip seat.old seat.new × Only (λ e. OnBegun (λ _. ⊥) e.event e.reply) seat.old seat.new) }
     {
         let buffer = match Buffer::new(self.alloc, &self.geometry) {
@@ -142,7 +142,7 @@ impl<B: Naming, D: BlockDevice, T: Trail> SharedCache<B, D, T> {
         ensures ended { (result.serial.0 ≡ job.serial) × Ends job seat.old seat.new result.slip (is_some result.failed) }
         ensures one { MadeOne (Some result.slip) seat.old seat.new }
         ensures failed { IfSome result.failed (IsOwnFailure self.now.name B.board) }
-        ensures file { IfSome result.failed (λ w. IsOfRequest B.sizes B.name result.serial.0 seat.new result.slip w.receipt) }
+        ensures file { IfSome result.failed (λ w. IsOfRequest B.files B.sizes B.name result.serial.0 seat.new result.slip w.receipt) }
     {
         let done = carry_through(rt, &self.disk, &self.state, self.name, seat, job);
         self.has_ended(rt);

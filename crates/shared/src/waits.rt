@@ -46,7 +46,7 @@ impl<B: Naming, D: BlockDevice, T: Trail> SharedCache<B, D, T> {
         ensures passing { IfOk result (λ _. is_for_now denied.refusal ≡ true) }
         ensures waited { IfOk result (λ _. may_pass denied.refusal (mutex_guard_value guard.entry).core.state ≡ true) }
         ensures still { IfErr result (λ _. may_pass denied.refusal (mutex_guard_value guard.entry).core.state ≡ false) }
-        ensures legal { After B.sizes B.name (mutex_guard_value guard.entry).log.history (mutex_guard_value guard.entry).core.state }
+        ensures legal { After B.files B.sizes B.name (mutex_guard_value guard.entry).log.history (mutex_guard_value guard.entry).core.state }
     {
         // Lends that the history is legal.
         let _ = guard.core();

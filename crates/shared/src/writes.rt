@@ -68,10 +68,10 @@ impl<B: Naming, D: BlockDevice, T: Trail> SharedCache<B, D, T> {
         ensures only { IfErr result (λ _. Only (IsTry handle.now.number (event.Write handle.now.number offset bytes.now)) seat.old seat.new) }
         ensures once { IfOk result (λ _. Once (IsTry handle.now.number (event.Write handle.now.number offset bytes.now)) seat.old seat.new) }
         ensures answer { IfOk result (λ r. Makes seat.old seat.new r.1 (event.Write handle.now.number offset bytes.now) (reply.Wrote r.0.count r.0.end)) }
-        ensures denied { seat.old.name ≡ self.now.name → handle.now.cache ≡ self.now.name → IfErr result (IsDenied B.sizes B.name B.whole (IsCallOf handle.now.number (event.Write handle.now.number offset bytes.now)) seat.old seat.new) }
-        ensures lost { IfErr result (IsLost B.sizes self.now.name seat.new) }
+        ensures denied { seat.old.name ≡ self.now.name → handle.now.cache ≡ self.now.name → IfErr result (IsDenied B.files B.sizes B.name B.whole (IsCallOf handle.now.number (event.Write handle.now.number offset bytes.now)) seat.old seat.new) }
+        ensures lost { IfErr result (IsLost B.files B.sizes self.now.name seat.new) }
         ensures count { IfOk result (λ r. (r.0.count ≡ length bytes.now) × (r.0.end ≡ offset + length bytes.now)) }
-        ensures stands { IfErr result (IsFinal B.sizes self.now.name seat.new) }
+        ensures stands { IfErr result (IsFinal B.files B.sizes self.now.name seat.new) }
         ensures wanting { IfErr result (IsShortFor (event.Write handle.now.number offset bytes.now) seat.old seat.new) }
         ensures settled { Settles self.now.name seat.old seat.new }
         ensures missed { FillsMissed (event.Write handle.now.number offset bytes.now) seat.old seat.new }
@@ -99,11 +99,11 @@ impl<B: Naming, D: BlockDevice, T: Trail> SharedCache<B, D, T> {
         ensures only { IfErr result (λ _. Only (IsTry handle.old.number (write_event handle.old bytes.now)) seat.old seat.new) }
         ensures once { IfOk result (λ _. Once (IsTry handle.old.number (write_event handle.old bytes.now)) seat.old seat.new) }
         ensures answer { IfOk result (λ r. Makes seat.old seat.new r.1 (write_event handle.old bytes.now) (reply.Wrote r.0.count r.0.end)) }
-        ensures denied { seat.old.name ≡ self.now.name → handle.old.cache ≡ self.now.name → IfErr result (IsDenied B.sizes B.name B.whole (IsCallOf handle.old.number (write_event handle.old bytes.now)) seat.old seat.new) }
-        ensures lost { IfErr result (IsLost B.sizes self.now.name seat.new) }
+        ensures denied { seat.old.name ≡ self.now.name → handle.old.cache ≡ self.now.name → IfErr result (IsDenied B.files B.sizes B.name B.whole (IsCallOf handle.old.number (write_event handle.old bytes.now)) seat.old seat.new) }
+        ensures lost { IfErr result (IsLost B.files B.sizes self.now.name seat.new) }
         ensures count { IfOk result (λ r. r.0.count ≡ length bytes.now) }
         ensures cursor { handle.new ≡ record handle.old { cursor = cursor_after handle.old.cursor result } }
-        ensures stands { IfErr result (IsFinal B.sizes self.now.name seat.new) }
+        ensures stands { IfErr result (IsFinal B.files B.sizes self.now.name seat.new) }
         ensures wanting { IfErr result (IsShortFor (write_event handle.old bytes.now) seat.old seat.new) }
         ensures settled { Settles self.now.name seat.old seat.new }
         ensures missed { FillsMissed (write_event handle.old bytes.now) seat.old seat.new }
@@ -142,9 +142,9 @@ impl<B: Naming, D: BlockDevice, T: Trail> SharedCache<B, D, T> {
         ensures only { IfErr result (λ _. Only (IsTry handle.now.number (event.Truncate handle.now.number size)) seat.old seat.new) }
         ensures once { IfOk result (λ _. Once (IsTry handle.now.number (event.Truncate handle.now.number size)) seat.old seat.new) }
         ensures answer { IfOk result (λ slip. Makes seat.old seat.new slip (event.Truncate handle.now.number size) reply.Done) }
-        ensures denied { seat.old.name ≡ self.now.name → handle.now.cache ≡ self.now.name → IfErr result (IsDenied B.sizes B.name B.whole (IsCallOf handle.now.number (event.Truncate handle.now.number size)) seat.old seat.new) }
-        ensures lost { IfErr result (IsLost B.sizes self.now.name seat.new) }
-        ensures stands { IfErr result (IsFinal B.sizes self.now.name seat.new) }
+        ensures denied { seat.old.name ≡ self.now.name → handle.now.cache ≡ self.now.name → IfErr result (IsDenied B.files B.sizes B.name B.whole (IsCallOf handle.now.number (event.Truncate handle.now.number size)) seat.old seat.new) }
+        ensures lost { IfErr result (IsLost B.files B.sizes self.now.name seat.new) }
+        ensures stands { IfErr result (IsFinal B.files B.sizes self.now.name seat.new) }
         ensures wanting { IfErr result (IsShortFor (event.Truncate handle.now.number size) seat.old seat.new) }
         ensures settled { Settles self.now.name seat.old seat.new }
         ensures missed { FillsMissed (event.Truncate handle.now.number size) seat.old seat.new }
@@ -174,10 +174,10 @@ impl<B: Naming, D: BlockDevice, T: Trail> SharedCache<B, D, T> {
         ensures only { IfErr result (λ _. Only (IsTry handle (event_of change handle bytes.now)) seat.old seat.new) }
         ensures once { IfOk result (λ _. Once (IsTry handle (event_of change handle bytes.now)) seat.old seat.new) }
         ensures answer { IfOk result (λ r. Makes seat.old seat.new r.1 (event_of change handle bytes.now) (over change r.0)) }
-        ensures denied { IfErr result (IsDenied B.sizes B.name B.whole (IsCallOf handle (event_of change handle bytes.now)) seat.old seat.new) }
-        ensures lost { IfErr result (IsLost B.sizes B.name seat.new) }
+        ensures denied { IfErr result (IsDenied B.files B.sizes B.name B.whole (IsCallOf handle (event_of change handle bytes.now)) seat.old seat.new) }
+        ensures lost { IfErr result (IsLost B.files B.sizes B.name seat.new) }
         ensures whole { IfOk result (λ r. IsWhole change bytes.now r.0) }
-        ensures stands { IfErr result (IsFinal B.sizes B.name seat.new) }
+        ensures stands { IfErr result (IsFinal B.files B.sizes B.name seat.new) }
         ensures wanting { IfErr result (IsShortFor (event_of change handle bytes.now) seat.old seat.new) }
         ensures settled { Settles B.name seat.old seat.new }
         ensures missed { FillsMissed (event_of change handle bytes.now) seat.old seat.new }
@@ -213,11 +213,11 @@ impl<B: Naming, D: BlockDevice, T: Trail> SharedCache<B, D, T> {
         ensures tried { IfOk result (λ o. IfNone o (Only (IsTry handle (event_of change handle bytes.now)) seat.old seat.new)) }
         ensures once { IfOk result (λ o. IfSome o (λ _. Once (IsTry handle (event_of change handle bytes.now)) seat.old seat.new)) }
         ensures answer { IfOk result (λ o. IfSome o (λ r. Makes seat.old seat.new r.1 (event_of change handle bytes.now) (over change r.0))) }
-        ensures denied { IfErr result (IsDenied B.sizes B.name B.whole (IsCallOf handle (event_of change handle bytes.now)) seat.old seat.new) }
-        ensures lost { IfErr result (IsLost B.sizes B.name seat.new) }
+        ensures denied { IfErr result (IsDenied B.files B.sizes B.name B.whole (IsCallOf handle (event_of change handle bytes.now)) seat.old seat.new) }
+        ensures lost { IfErr result (IsLost B.files B.sizes B.name seat.new) }
         ensures whole { IfOk result (λ o. IfSome o (λ r. IsWhole change bytes.now r.0)) }
         ensures again { IfOk result (λ o. IfNone o (Retries seat.old seat.new (event_of change handle bytes.now))) }
-        ensures stands { IfErr result (IsFinal B.sizes B.name seat.new) }
+        ensures stands { IfErr result (IsFinal B.files B.sizes B.name seat.new) }
         ensures wanting { IfErr result (IsShortFor (event_of change handle bytes.now) seat.old seat.new) }
         ensures settled { Settles B.name seat.old seat.new }
         ensures missed { FillsMissed (event_of change handle bytes.now) seat.old seat.new }
@@ -263,14 +263,14 @@ impl<B: Naming, D: BlockDevice, T: Trail> SharedCache<B, D, T> {
         requires { seat.old.table ≡ B.table }
         ensures goes { Goes seat.old seat.new }
         ensures only { Only (λ e. IsRoomEvent e.event) seat.old seat.new }
-        ensures denied { IfErr result (IsStillDenied B.sizes B.name B.whole denied seat.old seat.new) }
+        ensures denied { IfErr result (IsStillDenied B.files B.sizes B.name B.whole denied seat.old seat.new) }
         ensures passing { IfOk result (λ _. is_for_now denied.refusal ≡ true) }
         ensures other { IfErr result (λ d. (d ≡ denied) ⊎ (wants_room denied.refusal ≡ true)) }
         ensures quiet { wants_room denied.refusal ≡ false → seat.new ≡ seat.old }
         ensures crammed { IfErr result (λ d. wants_room d.refusal ≡ true → (d ≡ denied) × IsCrammed d.refusal (mutex_guard_value guard.entry).core.state × IsUnwritten (mutex_guard_value guard.entry).core.state seat.old seat.new) }
-        ensures legal { After B.sizes B.name (mutex_guard_value guard.entry).log.history (mutex_guard_value guard.entry).core.state }
-        ensures within { IsTrue (is_geometry B.sizes) }
-        ensures stands { IfErr result (IsFinalOr denied B.sizes B.name (mutex_guard_value guard.entry).core.state seat.new) }
+        ensures legal { After B.files B.sizes B.name (mutex_guard_value guard.entry).log.history (mutex_guard_value guard.entry).core.state }
+        ensures within { IsTrue (is_geometry B.files B.sizes) }
+        ensures stands { IfErr result (IsFinalOr denied B.files B.sizes B.name (mutex_guard_value guard.entry).core.state seat.new) }
         ensures settled { Settles B.name seat.old seat.new }
     {
         let is_roomy = !wants_room(denied.refusal);
@@ -295,7 +295,7 @@ fn change_by<B: Naming, T: Trail>(
 ) -> Result<(WriteAnswer, Slip), Denied>
     requires { seat.old.table ≡ B.table }
     ensures made { IfOk result (λ r. Made (event_of change handle bytes.now) (reply_of change r.0) state.old state.new seat.old seat.new r.1) }
-    ensures denied { IfErr result (under.IsDenied B.sizes B.name B.whole (event_of change handle bytes.now) state.old state.new seat.old seat.new) }
+    ensures denied { IfErr result (under.IsDenied B.files B.sizes B.name B.whole (event_of change handle bytes.now) state.old state.new seat.old seat.new) }
     ensures whole { IfOk result (λ r. IsWholeIn change bytes.now r.0) }
 {
     // Lends that the history is legal, and so that no file is longer than the limit.

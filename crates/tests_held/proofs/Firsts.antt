@@ -6,19 +6,19 @@ use Rattle.std.proofs.lemmas.Option.{same_Some}
 use Rattle.blockdev.specs.Blocks.{zero_blocks}
 use Rattle.deeds.specs.Shown.{AreTold}
 use Rattle.blockdev.specs.Device.{Told, fresh}
-use Rattle.machine.specs.History.{no_files}
+use Rattle.machine.specs.Catalogs.{adopted, no_catalog}
+use Rattle.machine.proofs.changes.Adopted.{no_catalog_is}
 use Rattle.machine.specs.State.{State}
 use Rattle.pc_types.specs.Limits.{Sizes}
 use Rattle.pc_types.specs.declared.refusal.Refusal.{Refusal}
-use Rattle.runs.specs.Runs.{IsBlank}
-use Rattle.trail.specs.Honest.{world_over}
+use Rattle.trail.specs.Honest.{MayBegin}
 
 pub zeros_count : (blocks : List (List ℕ)) → blocks ≡ zero_blocks 16 64 → length blocks ≡ 64
 zeros_count blocks zeros = ap length zeros
 
 pub first_zeros : (sizes : Sizes) (name : ℕ) (blocks : List (List ℕ)) → sizes.page ≡ 16 → sizes.blocks ≡ 64
-    → blocks ≡ zero_blocks 16 64 → IsBlank (world_over sizes name blocks)
-first_zeros sizes name blocks page count zeros = record {
+    → blocks ≡ zero_blocks 16 64 → MayBegin no_catalog sizes name blocks
+first_zeros sizes name blocks page count zeros = (no_catalog_is sizes, record {
   page_size = omega (arith, page);
   core = refl;
   outcomes = refl;
@@ -26,11 +26,11 @@ first_zeros sizes name blocks page count zeros = record {
   blocks = zeros_count blocks zeros ∙ sym count;
   block_sizes = subst (All (λ block. length block ≡ sizes.page)) (sym zeros)
       (All-replicate (λ block. length block ≡ sizes.page) 64 (replicate 16 0) (sym page));
-}
+})
 
-pub fresh_as : (s : State) (sizes : Sizes) (name called : ℕ) → s ≡ no_files sizes name → called ≡ name
-    → s ≡ no_files s.sizes called
-fresh_as s sizes name called is same = is ∙ (λ i. no_files (ap (λ (x : State). x.sizes) (sym is) i) (sym same i))
+pub fresh_as : (s : State) (sizes : Sizes) (name called : ℕ) → s ≡ adopted sizes name no_catalog → called ≡ name
+    → s ≡ adopted s.sizes called no_catalog
+fresh_as s sizes name called is same = is ∙ (λ i. adopted (ap (λ (x : State). x.sizes) (sym is) i) (sym same i) no_catalog)
 
 -- the blocks that are found on a new device
 pub found_zeros : (told : Bool) (device : Told) (blocks : List (List ℕ)) → device ≡ fresh 16 64

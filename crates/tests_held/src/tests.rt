@@ -5,9 +5,8 @@ ghost use Rattle.std.specs.Prelude.{◌≡◌, [], length, true};
 ghost use Rattle.blockdev.specs.Blocks.{zero_blocks};
 ghost use Rattle.deeds.specs.Shown.{AreTold};
 ghost use Rattle.held.specs.Keeps.{IsLocked};
-ghost use Rattle.machine.specs.History.{no_files};
-ghost use Rattle.runs.specs.Runs.{IsBlank};
-ghost use Rattle.trail.specs.Honest.{world_over};
+ghost use Rattle.machine.specs.Catalogs.{IsCatalog, adopted};
+ghost use Rattle.trail.specs.Honest.{MayBegin};
 
 use crate::checks::check;
 use blockdev::{Buffer, FaultEffect, ScriptDevice, Watched};
@@ -365,10 +364,11 @@ fn run_named<B: Naming>(
     row: Row,
 )
     requires state { IsLocked B.name B.table B.board B.sizes B.seats B.whole opened }
-    requires fresh { (opened.log.history ≡ []) × (opened.core.state ≡ no_files B.sizes B.name) }
+    requires fresh { (opened.log.history ≡ []) × (opened.core.state ≡ adopted B.sizes B.name B.files) }
+    requires files { IsCatalog B.sizes B.files }
     requires named { (deeds.table ≡ B.deeds) × (deeds.told ≡ B.told) × (deeds.blocks ≡ B.blocks) }
     requires count { length B.blocks ≡ B.sizes.blocks }
-    requires first { B.told ≡ true → IsBlank (world_over B.sizes B.name B.blocks) }
+    requires first { B.told ≡ true → MayBegin B.files B.sizes B.name B.blocks }
     requires device { AreTold B.told device.device B.blocks × (device.device.count ≡ 64) × (device.device.size ≡ 16) }
     requires own { (own.table ≡ B.table) × (board.now ≡ B.board) }
 {

@@ -2,9 +2,8 @@
 
 ghost use Rattle.std.specs.Prelude.{◌≡◌, [], All, length, true};
 ghost use Rattle.held.specs.Keeps.{IsLocked};
-ghost use Rattle.machine.specs.History.{no_files};
-ghost use Rattle.runs.specs.Runs.{IsBlank};
-ghost use Rattle.trail.specs.Honest.{world_over};
+ghost use Rattle.machine.specs.Catalogs.{IsCatalog, adopted};
+ghost use Rattle.trail.specs.Honest.{MayBegin};
 
 use crate::checks::check;
 use crate::tests::{FILE, HANDLE, opened_deeds, opens, reads, writes};
@@ -156,10 +155,11 @@ fn by_two_seats<B: Naming>(
     row: Row,
 ) -> (FullTrail, (Slip, Slip))
     requires state { IsLocked B.name B.table B.board B.sizes B.seats B.whole opened }
-    requires fresh { (opened.log.history ≡ []) × (opened.core.state ≡ no_files B.sizes B.name) }
+    requires fresh { (opened.log.history ≡ []) × (opened.core.state ≡ adopted B.sizes B.name B.files) }
+    requires files { IsCatalog B.sizes B.files }
     requires named { (deeds.table ≡ B.deeds) × (deeds.told ≡ B.told) × (deeds.blocks ≡ B.blocks) }
     requires count { length B.blocks ≡ B.sizes.blocks }
-    requires first { B.told ≡ true → IsBlank (world_over B.sizes B.name B.blocks) }
+    requires first { B.told ≡ true → MayBegin B.files B.sizes B.name B.blocks }
     requires seats { All (λ s. s.table ≡ B.table) seats.items }
     requires own { own.table ≡ B.table }
 {

@@ -9,16 +9,16 @@ use Rattle.machine.specs.declared.event.End.{End}
 use Rattle.machine.specs.declared.event.Outcome.{Outcome}
 use Rattle.machine.proofs.steps.Steady.{steady}
 use Rattle.maps.proofs.MapLaws.{same_nat_map}
+use Rattle.machine.specs.Catalogs.{Catalog}
 use Rattle.runs.specs.Always.{Always}
 use Rattle.runs.specs.Reached.{IsReached}
-use Rattle.runs.specs.Runs.{IsBlank}
 use Rattle.runs.specs.World.{World, Act, Call, Finish, outcome_of}
 use Rattle.runs.proofs.events.Lookups.{get-insert1, get-remove1}
-use Rattle.runs.proofs.moments.Blank.{blank_first}
 use Rattle.runs.proofs.moments.Reached.{reached_always, reached_first, reached_step}
 use Rattle.runs.proofs.views.View.{put1_else, put1_here, put1_tells}
 use Rattle.trail.specs.declared.entry.Entry.{Entry}
-use Rattle.trail.specs.Honest.{end_made, world_over}
+use Rattle.trail.specs.Honest.{MayBegin, end_made, world_over}
+use Rattle.trail.proofs.Weaving.{first_world}
 use Rattle.trail.proofs.TrailMoves.{acted, act_moves, called, call_moves, end_moves, finished}
 use Rattle.tied.specs.Tied.{IsToldOnce, GoesTo}
 
@@ -83,12 +83,13 @@ module _ (sizes : Sizes) (name : ℕ) where
   goes_along (e ∷ es) w new g a =
       goes_along es g.0 new g.2 (told_along e (end_made e.event e.reply) w g.0 refl g.1 a)
 
-  pub along : (blocks : List (List ℕ)) (es : List Entry) (new : World) → IsBlank (world_over sizes name blocks)
-      → GoesTo (world_over sizes name blocks) es new → IsAlong sizes name new
-  along blocks es new first g =
-      let w = world_over sizes name blocks in
+  pub along : (files : Catalog) (blocks : List (List ℕ)) (es : List Entry) (new : World) → MayBegin files sizes name blocks
+      → GoesTo (world_over files sizes name blocks) es new → IsAlong sizes name new
+  along files blocks es new first g =
+      let w = world_over files sizes name blocks in
+      let may = first_world files sizes name blocks first in
       goes_along es w new g
-      (record { reached = reached_first w (blank_first w first); outcomes = refl; sizes_are = refl; name_is = refl })
+      (record { reached = reached_first w may; outcomes = refl; sizes_are = refl; name_is = refl })
 
   -- what holds of each world of a run
   pub always_along : (w : World) → IsAlong sizes name w → Always w

@@ -24,7 +24,7 @@ use Rattle.machine.specs.declared.event.Event.{Event}
 use Rattle.machine.specs.declared.event.Event.TheVariants as event
 use Rattle.machine.specs.declared.event.Reply.{Reply}
 use Rattle.machine.specs.declared.event.Reply.TheVariants as reply
-use Rattle.machine.specs.History.{no_files}
+use Rattle.machine.specs.Catalogs.{Catalog, adopted}
 use Rattle.machine.specs.Sound.{Sound}
 use Rattle.machine.specs.State.{State, Request}
 use Rattle.machine.specs.Step.{Step}
@@ -71,9 +71,9 @@ all_homes : (blocks : List (List ℕ)) → length (map Home blocks) ≡ length b
 all_homes [] = refl
 all_homes (b ∷ bs) = ap suc (all_homes bs)
 
-pub covered_first : (sizes : Sizes) (name : ℕ) (blocks : List (List ℕ)) → length blocks ≡ sizes.blocks
-    → IsCovered (no_files sizes name) (map Home blocks)
-covered_first sizes name blocks count = record {
+pub covered_first : (files : Catalog) (sizes : Sizes) (name : ℕ) (blocks : List (List ℕ)) → length blocks ≡ sizes.blocks
+    → IsCovered (adopted sizes name files) (map Home blocks)
+covered_first files sizes name blocks count = record {
   count = all_homes blocks ∙ count;
   asked = λ t x is. absurd (let a = get-empty {X = Request} nat_cmp t in let j : None ≡ Some x = sym a ∙ is in cc);
   owned = λ k given at.

@@ -17,42 +17,41 @@ use Rattle.machine.specs.declared.event.Event.{Event}
 use Rattle.machine.specs.declared.event.Event.TheVariants as event
 use Rattle.machine.specs.declared.event.Reply.{Reply}
 use Rattle.machine.specs.declared.event.Reply.TheVariants as reply
-use Rattle.machine.specs.History.{no_files}
+use Rattle.machine.specs.Catalogs.{Catalog, adopted}
 use Rattle.machine.specs.Sound.{Sound}
 use Rattle.machine.specs.State.{State, Request}
 use Rattle.machine.specs.Step.{Step}
-use Rattle.runs.specs.Runs.{IsBlank}
 use Rattle.runs.specs.World.{World}
 use Rattle.runs.proofs.moments.KeptRequests.{is_job}
 use Rattle.trail.specs.declared.entry.Entry.{Entry}
 use Rattle.trail.specs.Entries.{entry_of}
-use Rattle.trail.specs.Honest.{end_made, world_over}
+use Rattle.trail.specs.Honest.{MayBegin, end_made, world_over}
 use Rattle.tied.specs.Tied.{IsHonest, IsTaskOf, IsTied}
 use Rattle.tied.proofs.Covered.{begun_home, covered_back, covered_begun, covered_first, covered_plain}
 use Rattle.tied.proofs.Tied.{tied_back, tied_begun, tied_first, tied_honest, tied_plain}
 
-pub kept_first : (told : Bool) (sizes : Sizes) (name : ℕ) (blocks : List (List ℕ)) → length blocks ≡ sizes.blocks
-    → (told ≡ true → IsBlank (world_over sizes name blocks))
-    → IsTied told sizes name blocks [] (no_files sizes name) (map Home blocks)
-kept_first told sizes name blocks count first = record {
-  covered = covered_first sizes name blocks count;
-  tied = λ tells. tied_first sizes name blocks (first tells);
+pub kept_first : (told : Bool) (files : Catalog) (sizes : Sizes) (name : ℕ) (blocks : List (List ℕ)) → length blocks ≡ sizes.blocks
+    → (told ≡ true → MayBegin files sizes name blocks)
+    → IsTied told files sizes name blocks [] (adopted sizes name files) (map Home blocks)
+kept_first told files sizes name blocks count first = record {
+  covered = covered_first files sizes name blocks count;
+  tied = λ tells. tied_first files sizes name blocks (first tells);
 }
 
-module _ (told : Bool) (sizes : Sizes) (name : ℕ) (blocks : List (List ℕ)) (history : List Entry) (core : State)
-    (places : List Place) (sound : Sound core) (i : IsTied told sizes name blocks history core places) (seat : ℕ) where
+module _ (told : Bool) (files : Catalog) (sizes : Sizes) (name : ℕ) (blocks : List (List ℕ)) (history : List Entry) (core : State)
+    (places : List Place) (sound : Sound core) (i : IsTied told files sizes name blocks history core places) (seat : ℕ) where
   -- an event that neither begins nor ends a request
   pub kept_plain : (e : Event) (r : Reply) (next : State) → end_made e r ≡ None → is_job r ≡ false → Step core e r next
-      → IsTied told sizes name blocks (history ++ entry_of seat e r ∷ []) next places
+      → IsTied told files sizes name blocks (history ++ entry_of seat e r ∷ []) next places
   kept_plain e r next none quiet step = record {
     covered = covered_plain core places i.covered e r next none quiet step;
-    tied = λ tells. tied_plain sizes name blocks history core places (i.tied tells) seat e r next none quiet step;
+    tied = λ tells. tied_plain files sizes name blocks history core places (i.tied tells) seat e r next none quiet step;
   }
 
   -- an end that is refused
   pub kept_refused : (kind : Kind) (end : End) (why : Refusal) (next : State)
       → Step core (event.End kind end) (reply.Refused why) next
-      → IsTied told sizes name blocks (history ++ entry_of seat (event.End kind end) (reply.Refused why) ∷ []) next places
+      → IsTied told files sizes name blocks (history ++ entry_of seat (event.End kind end) (reply.Refused why) ∷ []) next places
   kept_refused kind end why next step = kept_plain (event.End kind end) (reply.Refused why) next refl refl step
 
   -- the begin of a request: the deed of its block is at home, and goes out with its task
@@ -62,11 +61,11 @@ module _ (told : Bool) (sizes : Sizes) (name : ℕ) (blocks : List (List ℕ)) (
     pub kept_home : slice_get places task.block ≡ Some (Home (home_in places task.block))
     kept_home = begun_home core places i.covered sound e u next step x is task (λ j. (job.is j).block) low
 
-    pub kept_begun : IsTied told sizes name blocks (history ++ entry_of seat e (reply.Job u) ∷ []) next
+    pub kept_begun : IsTied told files sizes name blocks (history ++ entry_of seat e (reply.Job u) ∷ []) next
         (slice_set places task.block (Out (record { task = task; before = home_in places task.block })))
     kept_begun = record {
       covered = covered_begun core places i.covered sound e u next step x is task job low;
-      tied = λ tells. tied_begun sizes name blocks history core places (i.tied tells) i.covered seat e u next step x is
+      tied = λ tells. tied_begun files sizes name blocks history core places (i.tied tells) i.covered seat e u next step x is
           task job low;
     }
 
@@ -74,17 +73,17 @@ module _ (told : Bool) (sizes : Sizes) (name : ℕ) (blocks : List (List ℕ)) (
   pub kept_back : (kind : Kind) (end : End) (r : Reply) (next : State) → end_made (event.End kind end) r ≡ Some end
       → Step core (event.End kind end) r next → (finished : FinishedTask) (after : List Place)
       → Settles told places finished after → end ≡ end_of finished
-      → IsTied told sizes name blocks (history ++ entry_of seat (event.End kind end) r ∷ []) next after
+      → IsTied told files sizes name blocks (history ++ entry_of seat (event.End kind end) r ∷ []) next after
   kept_back kind end r next made step finished after s of = record {
     covered = covered_back core places i.covered sound kind end r next made step told finished after s of;
-    tied = λ tells. tied_back sizes name blocks history core places (i.tied tells) i.covered seat kind end r next made
+    tied = λ tells. tied_back files sizes name blocks history core places (i.tied tells) i.covered seat kind end r next made
         step told tells finished after s of;
   }
 
 -- the history so far is honest
-pub kept_honest : (told : Bool) (sizes : Sizes) (name : ℕ) (blocks : List (List ℕ)) (history : List Entry) (core : State)
-    (places : List Place) → IsTied told sizes name blocks history core places → told ≡ true
-    → (w : World) × IsHonest sizes name blocks history w × (w.core ≡ core)
-kept_honest told sizes name blocks history core places i tells =
+pub kept_honest : (told : Bool) (files : Catalog) (sizes : Sizes) (name : ℕ) (blocks : List (List ℕ)) (history : List Entry) (core : State)
+    (places : List Place) → IsTied told files sizes name blocks history core places → told ≡ true
+    → (w : World) × IsHonest files sizes name blocks history w × (w.core ≡ core)
+kept_honest told files sizes name blocks history core places i tells =
     let t = i.tied tells in
-    (t.world, tied_honest sizes name blocks history core places t, t.core_is)
+    (t.world, tied_honest files sizes name blocks history core places t, t.core_is)

@@ -26,13 +26,12 @@ use Rattle.machine.specs.declared.event.Event.{Event}
 use Rattle.machine.specs.declared.event.Event.TheVariants as event
 use Rattle.machine.specs.declared.event.Reply.{Reply}
 use Rattle.machine.specs.declared.event.Reply.TheVariants as reply
-use Rattle.machine.specs.History.{no_files}
+use Rattle.machine.specs.Catalogs.{Catalog, adopted}
 use Rattle.machine.specs.Sound.{Sound}
 use Rattle.machine.specs.State.{State, Request, page_bytes}
 use Rattle.machine.specs.Step.{Step}
 use Rattle.maps.specs.Maps.{put_some}
 use Rattle.runs.specs.Always.{Always}
-use Rattle.runs.specs.Runs.{IsBlank}
 use Rattle.runs.specs.World as world
 use Rattle.runs.specs.World.{World, block_bytes, device_after, to_write}
 use Rattle.runs.proofs.events.Lookups.{get-insert1, get-remove1}
@@ -41,7 +40,7 @@ use Rattle.runs.proofs.views.View.{put1_else, put1_here}
 use Rattle.trail.specs.declared.entry.Entry.{Entry}
 use Rattle.trail.specs.Entries as entries
 use Rattle.trail.specs.Entries.{entry_of}
-use Rattle.trail.specs.Honest.{Fate, end_made, world_over}
+use Rattle.trail.specs.Honest.{Fate, MayBegin, end_made, world_over}
 use Rattle.trail.proofs.HistoryLaws.{noted_step}
 use Rattle.trail.proofs.RunLaws.{bytes_in}
 use Rattle.trail.proofs.TrailMoves.{acted, no_job}
@@ -78,10 +77,10 @@ noted_same writing r s j = refl
 
 -- ---- the first state
 
-pub tied_first : (sizes : Sizes) (name : ℕ) (blocks : List (List ℕ)) → IsBlank (world_over sizes name blocks)
-    → Tied sizes name blocks [] (no_files sizes name) (map Home blocks)
-tied_first sizes name blocks first = record {
-  world = world_over sizes name blocks;
+pub tied_first : (files : Catalog) (sizes : Sizes) (name : ℕ) (blocks : List (List ℕ)) → MayBegin files sizes name blocks
+    → Tied files sizes name blocks [] (adopted sizes name files) (map Home blocks)
+tied_first files sizes name blocks first = record {
+  world = world_over files sizes name blocks;
   first = first;
   goes = refl;
   core_is = refl;
@@ -89,19 +88,19 @@ tied_first sizes name blocks first = record {
   writes = λ k given at. let a = mapped_at Home blocks k (Out given) at in absurd (home_not_out a.0 given a.2);
 }
 
-module _ (sizes : Sizes) (name : ℕ) (blocks : List (List ℕ)) (history : List Entry) (core : State)
-    (places : List Place) (t : Tied sizes name blocks history core places) where
+module _ (files : Catalog) (sizes : Sizes) (name : ℕ) (blocks : List (List ℕ)) (history : List Entry) (core : State)
+    (places : List Place) (t : Tied files sizes name blocks history core places) where
   abbrev w : World
   w = t.world
 
   abbrev first : World
-  first = world_over sizes name blocks
+  first = world_over files sizes name blocks
 
   here : (e : Event) (r : Reply) (next : State) → Step core e r next → Step w.core (entries.noted e r) r next
   here e r next step = noted_step w.core e r next (subst (λ s. Step s e r next) (sym t.core_is) step)
 
   is_along : IsAlong sizes name w
-  is_along = along sizes name blocks history w t.first t.goes
+  is_along = along sizes name files blocks history w t.first t.goes
 
   always : Always w
   always = always_along sizes name w is_along
@@ -120,7 +119,7 @@ module _ (sizes : Sizes) (name : ℕ) (blocks : List (List ℕ)) (history : List
 
   -- an event that neither begins nor ends a request leaves the device. No deed moves
   pub tied_plain : (seat : ℕ) (e : Event) (r : Reply) (next : State) → end_made e r ≡ None → is_job r ≡ false
-      → Step core e r next → Tied sizes name blocks (history ++ entry_of seat e r ∷ []) next places
+      → Step core e r next → Tied files sizes name blocks (history ++ entry_of seat e r ∷ []) next places
   tied_plain seat e r next none quiet step =
       let same = noted_same w.writing r next quiet in
       record {
@@ -173,7 +172,7 @@ module _ (sizes : Sizes) (name : ℕ) (blocks : List (List ℕ)) (history : List
         (older core places c sound e u next step x is g.task.serial o.x o.is) ∙ t.writes k g at flush
 
     -- the deed of its block goes out with its task
-    pub tied_begun : Tied sizes name blocks (history ++ entry_of seat e (reply.Job u) ∷ []) next
+    pub tied_begun : Tied files sizes name blocks (history ++ entry_of seat e (reply.Job u) ∷ []) next
         (slice_set places task.block (Out (record { task = task; before = home_in places task.block })))
     tied_begun = record {
       world = v;
@@ -256,7 +255,7 @@ module _ (sizes : Sizes) (name : ℕ) (blocks : List (List ℕ)) (history : List
         ∙ ap (λ d. slice_set d finished.block s.left) t.device ∙ sym (known_settled told places after finished s).0
 
     -- the deed of its block comes home with the bytes that the call left
-    pub tied_back : Tied sizes name blocks (history ++ entry_of seat (event.End kind end) r ∷ []) next after
+    pub tied_back : Tied files sizes name blocks (history ++ entry_of seat (event.End kind end) r ∷ []) next after
     tied_back = record {
       world = ended_world;
       first = t.first;
@@ -273,8 +272,8 @@ module _ (sizes : Sizes) (name : ℕ) (blocks : List (List ℕ)) (history : List
   -- ---- a cache at rest
 
   -- the history is honest, from the first blocks
-  pub tied_honest : IsHonest sizes name blocks history w
-  tied_honest = honest_of sizes name blocks history w t.first t.goes
+  pub tied_honest : IsHonest files sizes name blocks history w
+  tied_honest = honest_of files sizes name blocks history w t.first t.goes
 
   -- of each block that is of no request in flight, a device that the desk knows has what the world has
   pub tied_at : (told : Bool) → IsCovered core places → (device : List (List ℕ)) → Knows told device places → (k : ℕ)

@@ -10,16 +10,16 @@ use Rattle.machine.specs.declared.event.Event.{Event}
 use Rattle.machine.specs.declared.event.Reply.{Reply}
 use Rattle.machine.specs.declared.event.Reply.TheVariants as reply
 use Rattle.machine.specs.Sound.{Sound}
+use Rattle.machine.specs.Catalogs.{Catalog, IsCatalog}
 use Rattle.machine.specs.State.{State, Request}
 use Rattle.machine.specs.Step.{Step}
-use Rattle.machine.proofs.sound.Steps.{steps_stay_sound, blank_sound}
+use Rattle.machine.proofs.sound.Steps.{histories_are_sound, steps_stay_sound}
 use Rattle.machine.proofs.steps.Choices.{some_of}
 use Rattle.maps.proofs.Maps.{get_left, get_inserted}
-use Rattle.runs.specs.Runs.{IsBlank}
 use Rattle.runs.specs.World.{World}
 use Rattle.runs.proofs.moments.KeptRequests.{Begun, Kept, Over, of_requests, stood}
 use Rattle.trail.specs.declared.entry.Entry.{Entry}
-use Rattle.trail.specs.Honest.{EndTells, Fate, GoesHonestly, IsTold, end_made, world_over}
+use Rattle.trail.specs.Honest.{EndTells, Fate, GoesHonestly, IsTold, MayBegin, end_made, world_over}
 use Rattle.trail.proofs.TrailMoves.{no_end, over_of}
 use Rattle.tied.specs.Tied.{IsHonest, IsToldOnce, GoesTo, LeadsHonestly}
 
@@ -131,31 +131,31 @@ leads_all [] w new g fates ok agree = g
 leads_all (e ∷ es) w new g fates ok agree =
     let a = one e es (leads_all es) (end_made e.event e.reply) w g.0 new refl g.1 g.2 fates ok agree in (g.0, a.0, a.1)
 
--- the fates of a history that goes on from a cache without files
-pub leads_honestly : (sizes : Sizes) (name : ℕ) (blocks : List (List ℕ)) (es : List Entry) (new : World)
-    → GoesTo (world_over sizes name blocks) es new
-    → (fates : ℕ → Fate) × LeadsHonestly fates (world_over sizes name blocks) es new
-leads_honestly sizes name blocks es new g =
-    let w = world_over sizes name blocks in
+-- the fates of a history that goes on from a cache with these files
+pub leads_honestly : (files : Catalog) (sizes : Sizes) (name : ℕ) (blocks : List (List ℕ)) (es : List Entry) (new : World)
+    → IsCatalog sizes files → GoesTo (world_over files sizes name blocks) es new
+    → (fates : ℕ → Fate) × LeadsHonestly fates (world_over files sizes name blocks) es new
+leads_honestly files sizes name blocks es new ok g =
+    let w = world_over files sizes name blocks in
     let fates = fates_of w es new g in
-    (fates, leads_all es w new g fates (blank_sound sizes name [] w.core refl) (λ t may. refl))
+    (fates, leads_all es w new g fates (histories_are_sound files sizes name [] w.core ok refl) (λ t may. refl))
 
 goes_honestly : (fates : ℕ → Fate) (w : World) (es : List Entry) (new : World) → LeadsHonestly fates w es new
     → GoesHonestly fates w es
 goes_honestly fates w [] new h = tt
 goes_honestly fates w (e ∷ es) new h = (h.0, h.1, goes_honestly fates h.0 es new h.2)
 
-pub honest_of : (sizes : Sizes) (name : ℕ) (blocks : List (List ℕ)) (es : List Entry) (new : World)
-    → IsBlank (world_over sizes name blocks) → GoesTo (world_over sizes name blocks) es new
-    → IsHonest sizes name blocks es new
-honest_of sizes name blocks es new first g =
-    let a = leads_honestly sizes name blocks es new g in
+pub honest_of : (files : Catalog) (sizes : Sizes) (name : ℕ) (blocks : List (List ℕ)) (es : List Entry) (new : World)
+    → MayBegin files sizes name blocks → GoesTo (world_over files sizes name blocks) es new
+    → IsHonest files sizes name blocks es new
+honest_of files sizes name blocks es new first g =
+    let a = leads_honestly files sizes name blocks es new first.0 g in
     record {
       honest = record {
         device = blocks;
         first = first;
         fates = a.0;
-        goes = goes_honestly a.0 (world_over sizes name blocks) es new a.1;
+        goes = goes_honestly a.0 (world_over files sizes name blocks) es new a.1;
       };
       device = refl;
       leads = a.1;

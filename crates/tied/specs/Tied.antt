@@ -12,11 +12,11 @@ use Rattle.deeds.specs.declared.views.Given.{Given}
 use Rattle.deeds.specs.declared.views.Place.{Place}
 use Rattle.deeds.specs.declared.views.Place.TheVariants.{Out}
 use Rattle.machine.specs.declared.event.End.{End}
+use Rattle.machine.specs.Catalogs.{Catalog}
 use Rattle.machine.specs.State.{State, Request, page_bytes}
-use Rattle.runs.specs.Runs.{IsBlank}
 use Rattle.runs.specs.World.{World, Acts}
 use Rattle.trail.specs.declared.entry.Entry.{Entry}
-use Rattle.trail.specs.Honest.{Fate, Honest, IsTold, EndTells, end_made, world_over}
+use Rattle.trail.specs.Honest.{Fate, Honest, IsTold, EndTells, MayBegin, end_made, world_over}
 
 -- ---- histories that go on
 
@@ -38,10 +38,10 @@ LeadsHonestly fates w (e ∷ es) new =
     (mid : World) × IsTold fates w e (end_made e.event e.reply) mid × LeadsHonestly fates mid es new
 
 -- the history is honest over these first blocks, and leads to this world
-pub record IsHonest (sizes : Sizes) (name : ℕ) (blocks : List (List ℕ)) (history : List Entry) (new : World) : Type 0 where
-  pub honest : Honest sizes name history
+pub record IsHonest (files : Catalog) (sizes : Sizes) (name : ℕ) (blocks : List (List ℕ)) (history : List Entry) (new : World) : Type 0 where
+  pub honest : Honest files sizes name history
   pub device : honest.device ≡ blocks
-  pub leads : LeadsHonestly honest.fates (world_over sizes name blocks) history new
+  pub leads : LeadsHonestly honest.fates (world_over files sizes name blocks) history new
 
 -- ---- tasks
 
@@ -79,12 +79,12 @@ pub record IsCovered (core : State) (places : List Place) : Type 0 where
 abbrev pub IsOnItsWay : World → ℕ → Request → Option (List ℕ) → Type 0
 IsOnItsWay w t x bytes = (bytes ≡ slice_get w.device x.block) ⊎ ((x.kind ≡ Flush) × (map.get w.writing t ≡ bytes))
 
--- the history leads from a cache without files over these blocks to a world whose device is what the desk knows
-pub record Tied (sizes : Sizes) (name : ℕ) (blocks : List (List ℕ)) (history : List Entry) (core : State)
+-- the history leads from a cache with these files over these blocks to a world whose device is what the desk knows
+pub record Tied (files : Catalog) (sizes : Sizes) (name : ℕ) (blocks : List (List ℕ)) (history : List Entry) (core : State)
     (places : List Place) : Type 0 where
   pub world : World
-  pub first : IsBlank (world_over sizes name blocks)
-  pub goes : GoesTo (world_over sizes name blocks) history world
+  pub first : MayBegin files sizes name blocks
+  pub goes : GoesTo (world_over files sizes name blocks) history world
   pub core_is : world.core ≡ core
   pub device : world.device ≡ known places
   -- a write in flight has the bytes of its task
@@ -92,7 +92,7 @@ pub record Tied (sizes : Sizes) (name : ℕ) (blocks : List (List ℕ)) (history
       → map.get world.writing given.task.serial ≡ Some given.task.bytes
 
 -- both, the second over a device that tells its blocks
-pub record IsTied (told : Bool) (sizes : Sizes) (name : ℕ) (blocks : List (List ℕ)) (history : List Entry) (core : State)
+pub record IsTied (told : Bool) (files : Catalog) (sizes : Sizes) (name : ℕ) (blocks : List (List ℕ)) (history : List Entry) (core : State)
     (places : List Place) : Type 0 where
   pub covered : IsCovered core places
-  pub tied : told ≡ true → Tied sizes name blocks history core places
+  pub tied : told ≡ true → Tied files sizes name blocks history core places

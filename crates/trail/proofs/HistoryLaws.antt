@@ -15,6 +15,7 @@ use Rattle.machine.specs.declared.event.Outcome.{Outcome}
 use Rattle.machine.specs.declared.event.Outcome.TheVariants as outcome
 use Rattle.machine.specs.declared.event.Reply.{Reply}
 use Rattle.machine.specs.declared.event.Reply.TheVariants as reply
+use Rattle.machine.specs.Catalogs.{Catalog}
 use Rattle.machine.specs.History.{Leads}
 use Rattle.machine.specs.State.{State, Request}
 use Rattle.machine.specs.Step.{Step, AnswersOr}
@@ -63,10 +64,11 @@ noted_step s e r new h = h
 
 -- ---- one more entry
 
-pub after_step : (history : List Entry) (seat : ℕ) (s new : State) (e : Event) (r : Reply)
-    → After s.sizes s.name history s → Step s e r new → After new.sizes new.name (history ++ entry_of seat e r ∷ []) new
-after_step history seat s new e r is step =
+pub after_step : (files : Catalog) (history : List Entry) (seat : ℕ) (s new : State) (e : Event) (r : Reply)
+    → After files s.sizes s.name history s → Step s e r new
+    → After files new.sizes new.name (history ++ entry_of seat e r ∷ []) new
+after_step files history seat s new e r is step =
     let same = steady s e r new step in
-    subst (λ (x : Sizes × ℕ). After x.0 x.1 (history ++ entry_of seat e r ∷ []) new)
+    subst (λ (x : Sizes × ℕ). After files x.0 x.1 (history ++ entry_of seat e r ∷ []) new)
     (λ j. (sym same.sizes j, sym same.name j))
-    (leads_snoc _ history (entry_of seat e r) s new is (noted_step s e r new step))
+    (is.0, leads_snoc _ history (entry_of seat e r) s new is.1 (noted_step s e r new step))

@@ -24,7 +24,6 @@ use Rattle.runs.specs.Runs as runs
 use Rattle.runs.specs.Seen.{files_seen}
 use Rattle.runs.specs.World.{World, Move, Act, Call, Finish, WorldStep, Ends}
 use Rattle.runs.proofs.events.Lookups.{get-insert1, get-remove1}
-use Rattle.runs.proofs.moments.Blank.{blank_first}
 use Rattle.runs.proofs.moments.Histories.{calls}
 use Rattle.runs.proofs.moments.RunSteps.{step_at}
 use Rattle.runs.proofs.syncs.SyncRuns.{syncs_are_synced}
@@ -302,8 +301,8 @@ module _ (w : World) (run : runs.Steps) (is_run : Run w run) (n : SyncId) (first
         ∙ move_goes_on (runs.world_at w run k) q.1 q.0 m a.0 q.4 (on d k (omega (arith, e)) (omega (arith, within)))
 
 pub clean_entries_hold : CleanEntriesHold
-clean_entries_hold sizes name history h steps woven r a j k s late short =
-    let w = world_over sizes name h.device in
+clean_entries_hold files sizes name history h steps woven r a j k s late short =
+    let w = world_over files sizes name h.device in
     let m = a.number.0 in
     let i = place_in steps a.step in
     let at : (q : ℕ) (move : Move) → slice_get steps q ≡ Some move
@@ -328,7 +327,7 @@ clean_entries_hold sizes name history h steps woven r a j k s late short =
       between h.fates m (λ _. false) history steps woven a.step j s.lasts q z.move low high
           (sym (ap (λ l. slice_get l q) r.steps_are) ∙ without_world r.run q (z.move, z.new) z.there),
     ) in
-    syncs_are_synced w r.run (blank_first w r.first) r.is_run (record a { step = i }) (place_in steps j) k
+    syncs_are_synced w r.run r.first r.is_run (record a { step = i }) (place_in steps j) k
     (record {
       begins = (begins.0, begins.1);
       new = answers.0;

@@ -1,6 +1,7 @@
 -- Legal histories: those of the machine, with a seat beside each event.
 use Rattle.std.specs.Prelude.{ℕ, List, map}
 use Rattle.pc_types.specs.Limits.{Sizes}
+use Rattle.machine.specs.Catalogs.{Catalog, IsCatalog}
 use Rattle.machine.specs.declared.event.Event.{Event}
 use Rattle.machine.specs.declared.event.Reply.{Reply}
 use Rattle.machine.specs.History as machine
@@ -11,10 +12,11 @@ use Rattle.trail.specs.declared.entry.Entry.{Entry}
 abbrev pub seatless : Entry → Event × Reply
 seatless e = (e.event, e.reply)
 
--- the entries are steps of the machine, one after the other, from a cache without files, and this is the state at the
--- end. There is at most one: an event and its reply settle the state
-abbrev pub After : Sizes → ℕ → List Entry → State → Type 0
-After sizes name history new = machine.After sizes name (map seatless history) new
+-- the entries are steps of the machine, one after the other, from a cache with these files that stand on its device, and
+-- this is the state at the end. There is at most one: an event and its reply settle the state
+abbrev pub After : Catalog → Sizes → ℕ → List Entry → State → Type 0
+After files sizes name history new =
+    IsCatalog sizes files × machine.AfterFiles files sizes name (map seatless history) new
 
-abbrev pub IsLegal : Sizes → ℕ → List Entry → Type 0
-IsLegal sizes name history = machine.Legal sizes name (map seatless history)
+abbrev pub IsLegal : Catalog → Sizes → ℕ → List Entry → Type 0
+IsLegal files sizes name history = (new : State) × After files sizes name history new

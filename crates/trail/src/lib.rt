@@ -22,6 +22,6 @@ pub use entry::Entry;
 pub use full::FullTrail;
 pub use none::NoTrail;
 pub use promises::every_trail;
-pub use replay::{Checked, first_odd, replay_plain};
+pub use replay::{Checked, first_odd, first_odd_over, replay_plain, replay_plain_over};
 pub use reserve::Reserve;
 pub use trail::Trail;

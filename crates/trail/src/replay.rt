@@ -1,10 +1,10 @@
 //! The check of a history against plain files.
 
-ghost use Rattle.std.specs.Prelude.{◌↔◌, [], true, is_some, IfNone, IfOk, IfSome, OnOk, IsTrue, IsOkUnless, Some, None, length, ◌+◌, ◌≡◌};
+ghost use Rattle.std.specs.Prelude.{◌↔◌, [], map, true, is_some, IfNone, IfOk, IfSome, OnOk, IsTrue, IsOkUnless, Some, None, length, ◌+◌, ◌≡◌};
 ghost use Rattle.machine.specs.declared.event.Event.TheVariants as event;
 ghost use Rattle.runs.specs.Plain.{plain_after};
 ghost use Rattle.trail.specs.Entries.{event_with, reply_with};
-ghost use Rattle.trail.specs.Replay.{plain_of, Agrees, IsFirstOdd, Replays, Answered};
+ghost use Rattle.trail.specs.Replay.{plain_of, Agrees, IsFirstOdd, IsFirstOddFrom, Replays, ReplaysFrom, Answered, files_of};
 
 use crate::full::FullTrail;
 use crate::plain::PlainFiles;
@@ -24,9 +24,30 @@ pub fn replay_plain(alloc: Global, trail: &FullTrail) -> Result<Option<Checked>,
     ensures checked { IfOk result (λ o. IsTrue (is_some o) ↔ Replays trail.now.entries) }
     ensures refused { IsOkUnless result Refusal.Memory }
 {
-    match first_odd(alloc, trail)? {
-        None => Ok(Some(Checked(()))),
-        Some(_) => Ok(None),
+    let odd = first_odd(alloc, trail)?;
+    Ok(checked_unless(odd))
+}
+
+/// The same of the history of a cache that began with these files on its device: file k has the bytes of vector k then.
+#[tactic(auto, using(crate::proofs::ReplayLaws::no_odd))]
+pub fn replay_plain_over(
+    alloc: Global,
+    files: &[Vec<u8>],
+    trail: &FullTrail,
+) -> Result<Option<Checked>, Refusal>
+    ensures checked { IfOk result (λ o. IsTrue (is_some o) ↔ ReplaysFrom (files_of (map (λ v. v.items) files.now)) trail.now.entries) }
+    ensures refused { IsOkUnless result Refusal.Memory }
+{
+    let odd = first_odd_over(alloc, files, trail)?;
+    Ok(checked_unless(odd))
+}
+
+fn checked_unless(odd: Option<u64>) -> Option<Checked>
+    ensures { IsTrue (is_some result) ↔ (odd ≡ None) }
+{
+    match odd {
+        None => Some(Checked(())),
+        Some(_) => None,
     }
 }
 
@@ -37,7 +58,31 @@ pub fn first_odd(alloc: Global, trail: &FullTrail) -> Result<Option<u64>, Refusa
     ensures none { IfOk result (λ o. IfNone o (Replays trail.now.entries)) }
     ensures refused { IsOkUnless result Refusal.Memory }
 {
-    let mut plain = PlainFiles::new(alloc);
+    odd_from(alloc, PlainFiles::new(alloc), trail)
+}
+
+/// The same of the history of a cache that began with these files on its device.
+pub fn first_odd_over(
+    alloc: Global,
+    files: &[Vec<u8>],
+    trail: &FullTrail,
+) -> Result<Option<u64>, Refusal>
+    ensures odd { IfOk result (λ o. IfSome o (IsFirstOddFrom (files_of (map (λ v. v.items) files.now)) trail.now.entries)) }
+    ensures none { IfOk result (λ o. IfNone o (ReplaysFrom (files_of (map (λ v. v.items) files.now)) trail.now.entries)) }
+    ensures refused { IsOkUnless result Refusal.Memory }
+{
+    odd_from(alloc, PlainFiles::over(alloc, files)?, trail)
+}
+
+fn odd_from(
+    alloc: Global,
+    mut plain: PlainFiles,
+    trail: &FullTrail,
+) -> Result<Option<u64>, Refusal>
+    ensures odd { IfOk result (λ o. IfSome o (IsFirstOddFrom (plain_of plain) trail.now.entries)) }
+    ensures none { IfOk result (λ o. IfNone o (ReplaysFrom (plain_of plain) trail.now.entries)) }
+    ensures refused { IsOkUnless result Refusal.Memory }
+{
     let mut place = 0;
     while place < trail.lines() {
         let (event, reply, bytes) = trail.line(place);

@@ -2,6 +2,8 @@ use Rattle.std.proofs.Common.{◌≡◌, true, false, ℕ, List, [], length, ap,
 use Rattle.std.proofs.lemmas.List.{length-replicate}
 use Rattle.cachecore.specs.Core.{Core}
 use Rattle.held.proofs.Failures.{none_told}
+use Rattle.machine.specs.Catalogs.{no_catalog}
+use Rattle.machine.proofs.changes.Adopted.{no_catalog_is}
 use Rattle.held.proofs.Rooms.{room_first}
 use Rattle.bench_threads.proofs.holds.time_held.Goals as goal
 
@@ -12,7 +14,7 @@ time_named-requires-clause-state g c = record {
   errors = refl;
   sized = refl;
   counted = refl;
-  told = none_told c.in-Ok.opened.core.state c.in-Ok.opened.errors (ap (λ (x : Core). x.state.files) c.in-Ok.ensures.core)
+  told = none_told no_catalog _ _ c.in-Ok.opened.core.state c.in-Ok.opened.errors (ap (λ (x : Core). x.state) c.in-Ok.ensures.core)
       c.in-Ok.ensures.board.1;
   room = room_first _ c.in-Ok.opened.log c.in-Ok.ensures.log.1 refl;
 }
@@ -25,3 +27,6 @@ time_named-requires-clause-count g c =
 
 pub time_named-requires-clause-first : goal.time_named-requires-clause-first
 time_named-requires-clause-first g c tells = absurd (let k : false ≡ true = sym c.in_ok-deeds.ensures.0 ∙ tells in cc)
+
+pub time_named-requires-clause-files : goal.time_named-requires-clause-files
+time_named-requires-clause-files g c = no_catalog_is _

@@ -1,3 +1,4 @@
+use Rattle.machine.specs.Catalogs.{no_catalog}
 use Rattle.bench_threads.proofs.holds.time_held.Given as goal
 
 -- the cache that was just made
@@ -7,6 +8,7 @@ ghosts-time_named-B-Naming g a = record {
   table = a.opened.log.table;
   board = a.opened.errors.board;
   sizes = a.opened.core.state.sizes;
+  files = no_catalog;
   seats = a.opened.log.made;
   whole = a.opened.log.room;
   blocks = a.deeds.blocks;

@@ -14,6 +14,6 @@ returns-clause-ends g c =
 
 pub returns-clause-file : goal.returns-clause-file
 returns-clause-file g c =
-    failed_of_request g.B.Naming.sizes g.B.Naming.name c.args.name c.carry_out-report.result.serial c.serial-serial.result.0
+    failed_of_request g.B.Naming.files g.B.Naming.sizes g.B.Naming.name c.args.name c.carry_out-report.result.serial c.serial-serial.result.0
     c.end-receipt.new.seat c.end-receipt.result.0 c.end-receipt.result.1 c.failure.result c.failure.ensures.is
     (search rules) c.end-receipt.ensures.file

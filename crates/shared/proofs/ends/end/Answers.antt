@@ -42,5 +42,5 @@ returns-clause-others g c job over =
 -- the receipt is of the request that was in flight
 pub returns-clause-file : goal.returns-clause-file
 returns-clause-file g c =
-    of_request g.B.Naming.sizes g.B.Naming.name c.args.report.serial c.args.report.kind _ _ c.end-receipt.result.0
+    of_request g.B.Naming.files g.B.Naming.sizes g.B.Naming.name c.args.report.serial c.args.report.kind _ _ c.end-receipt.result.0
     c.end-receipt.result.1 _ _ _ _ _ c.core.ensures.named c.end-receipt.ensures.made c.end-receipt.ensures.receipt

@@ -6,7 +6,7 @@ use Rattle.shared.proofs.files.open_heard.Goals as goal
 
 pub returns-clause-hears : goal.returns-clause-hears
 returns-clause-hears g c =
-    hears_by g.B.Naming.sizes g.B.Naming.name (event.Open c.args.file) _ c.args.state.now c.open.new.self c.open.new.self
+    hears_by g.B.Naming.files g.B.Naming.sizes g.B.Naming.name (event.Open c.args.file) _ c.args.state.now c.open.new.self c.open.new.self
     c.args.seat.now c.open.new.seat _ c.level.new.pass c.in-Ok.ensures.made refl c.level.ensures.legal c.level.ensures.known
 
 -- the pass is levelled as it was made

@@ -16,5 +16,5 @@ returns-in-Append-clause-whole g c =
     c.args.seat.now c.append.new.seat r.1)
     (λ r. IsWholeIn c.args.change c.args.bytes.now r.0)
     (λ r m. subst (λ (x : Change). IsWholeIn x c.args.bytes.now r.0) (sym c.in-Append.is)
-    (whole_append c.args.handle c.args.bytes.now r.0 c.args.state.now c.append.new.self c.args.seat.now
+    (whole_append g.B.Naming.files c.args.handle c.args.bytes.now r.0 c.args.state.now c.append.new.self c.args.seat.now
     c.append.new.seat r.1 c.core.ensures.legal m)) c.append.ensures.made

@@ -2,6 +2,8 @@ use Rattle.std.proofs.Common.{ap, refl, sym, ◌∙◌}
 use Rattle.cachecore.specs.Core.{Core}
 use Rattle.pc_types.specs.Limits.{Sizes}
 use Rattle.held.proofs.Failures.{none_told}
+use Rattle.machine.specs.Catalogs.{no_catalog}
+use Rattle.machine.proofs.changes.Adopted.{no_catalog_is}
 use Rattle.held.proofs.Rooms.{room_first}
 use Rattle.tests_held.proofs.Firsts.{first_zeros, fresh_as, sizes_of}
 use Rattle.tests_held.proofs.tests.over_no_trail.Goals as goal
@@ -13,7 +15,7 @@ run_named-requires-clause-state g c = record {
   errors = refl;
   sized = refl;
   counted = refl;
-  told = none_told c.in-Ok.opened.core.state c.in-Ok.opened.errors (ap (λ (x : Core). x.state.files) c.in-Ok.ensures.core)
+  told = none_told no_catalog _ _ c.in-Ok.opened.core.state c.in-Ok.opened.errors (ap (λ (x : Core). x.state) c.in-Ok.ensures.core)
       c.in-Ok.ensures.board.1;
   room = room_first _ c.in-Ok.opened.log c.in-Ok.ensures.log.1 refl;
 }
@@ -33,3 +35,6 @@ run_named-requires-clause-first g c = λ tells.
     let sizes = ap (λ (x : Core). x.state.sizes) c.in-Ok.ensures.core ∙ asked in
     first_zeros _ _ _ (ap (λ (z : Sizes). z.page) sizes) (ap (λ (z : Sizes). z.blocks) sizes)
     c.opened_deeds-deeds.ensures.zeros
+
+pub run_named-requires-clause-files : goal.run_named-requires-clause-files
+run_named-requires-clause-files g c = no_catalog_is _

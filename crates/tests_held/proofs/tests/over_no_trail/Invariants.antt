@@ -1,3 +1,4 @@
+use Rattle.machine.specs.Catalogs.{no_catalog}
 use Rattle.tests_held.proofs.tests.over_no_trail.Given as goal
 
 -- the cache that was just made, and its device
@@ -7,6 +8,7 @@ ghosts-run_named-B-Naming g a = record {
   table = a.opened.log.table;
   board = a.opened.errors.board;
   sizes = a.opened.core.state.sizes;
+  files = no_catalog;
   seats = a.opened.log.made;
   whole = a.opened.log.room;
   blocks = a.deeds.blocks;

@@ -30,5 +30,5 @@ returns-clause-seats g c =
 
 pub returns-clause-tied : goal.returns-clause-tied
 returns-clause-tied g c = λ tells.
-    subst (λ (h : HeldSeen). Tied g.B.Naming.sizes g.B.Naming.name g.B.Naming.blocks h.log.history c.self.inside.core.state
+    subst (λ (h : HeldSeen). Tied g.B.Naming.files g.B.Naming.sizes g.B.Naming.name g.B.Naming.blocks h.log.history c.self.inside.core.state
     c.self.inside.desk) c.self.view_is (c.self.invariant.1.tied tells)

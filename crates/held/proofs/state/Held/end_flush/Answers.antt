@@ -36,7 +36,7 @@ invariant_of-self g c =
     let settled = subst (λ f. Settles g.B.NamesDeeds.told c.self.inside.desk f c.take_back.new.self) c.requires.deed
     c.take_back.ensures.settled in
     let m =
-    (flush_end_went _ _ _ _ _ _
+    (flush_end_went _ _ _ _ _ _ _
     (record { log = c.self.inside.log; core = c.self.inside.core; errors = c.self.inside.recorder })
     (record { log = c.enter-slip.new.self; core = c.flush_end-answer.new.self; errors = c.record-receipt.new.recorder })
     c.args.seat.now c.enter-slip.new.seat c.enter-slip.result c.self.invariant.0

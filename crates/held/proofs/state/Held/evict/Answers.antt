@@ -9,7 +9,7 @@ use Rattle.held.proofs.state.Held.evict.Goals as goal
 pub invariant_of-self-2 : goal.invariant_of-self-2
 invariant_of-self-2 g c =
     let m =
-    (bare _ _ _ _ _ _
+    (bare _ _ _ _ _ _ _
     (record { log = c.self.inside.log; core = c.self.inside.core; errors = c.self.inside.recorder })
     (record { log = c.enter-slip.new.self; core = c.evict-answer.new.self; errors = c.self.inside.recorder })
     c.args.seat.now c.enter-slip.new.seat c.enter-slip.result c.self.invariant.0

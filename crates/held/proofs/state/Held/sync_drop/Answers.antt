@@ -14,11 +14,11 @@ use Rattle.held.proofs.state.Held.sync_drop.Goals as goal
 pub invariant_of-self : goal.invariant_of-self
 invariant_of-self g c =
     let x = refused_by c.sync_drop-answer.result c.is_err.result c.is_err.ensures.value c.if-lacks_entry.ensures.yes.0 in
-    subst (λ (log : LogSeen). Whole _ _ _ _ _ _ (record { log = log; core = c.sync_drop-answer.new.self; errors = c.self.inside.recorder })
-    × IsTied g.B.NamesDeeds.told g.B.Naming.sizes g.B.Naming.name g.B.Naming.blocks log.history c.sync_drop-answer.new.self.state
+    subst (λ (log : LogSeen). Whole _ _ _ _ _ _ _ (record { log = log; core = c.sync_drop-answer.new.self; errors = c.self.inside.recorder })
+    × IsTied g.B.NamesDeeds.told g.B.Naming.files g.B.Naming.sizes g.B.Naming.name g.B.Naming.blocks log.history c.sync_drop-answer.new.self.state
     c.self.inside.desk) (sym c.full.ensures.same)
-    (subst (λ (core : Core). Whole _ _ _ _ _ _ (record { log = c.self.inside.log; core = core; errors = c.self.inside.recorder })
-    × IsTied g.B.NamesDeeds.told g.B.Naming.sizes g.B.Naming.name g.B.Naming.blocks c.self.inside.log.history core.state
+    (subst (λ (core : Core). Whole _ _ _ _ _ _ _ (record { log = c.self.inside.log; core = core; errors = c.self.inside.recorder })
+    × IsTied g.B.NamesDeeds.told g.B.Naming.files g.B.Naming.sizes g.B.Naming.name g.B.Naming.blocks c.self.inside.log.history core.state
     c.self.inside.desk)
     (sym (drop_back c.self.inside.core c.sync_drop-answer.new.self c.args.sync c.sync_drop-answer.result
     c.sync_drop-answer.ensures.step c.sync_drop-answer.ensures.lists x.0 x.1)) c.self.invariant)
@@ -35,7 +35,7 @@ enter-slip-requires-clause-room g c =
 pub invariant_of-self-in_err-slip : goal.invariant_of-self-in_err-slip
 invariant_of-self-in_err-slip g c =
     let m =
-    (bare _ _ _ _ _ _
+    (bare _ _ _ _ _ _ _
     (record { log = c.self.inside.log; core = c.self.inside.core; errors = c.self.inside.recorder })
     (record { log = c.enter-slip.new.self; core = c.sync_drop-answer.new.self; errors = c.self.inside.recorder })
     c.args.seat.now c.enter-slip.new.seat c.enter-slip.result c.self.invariant.0
@@ -50,7 +50,7 @@ invariant_of-self-in_err-slip g c =
 pub invariant_of-self-2 : goal.invariant_of-self-2
 invariant_of-self-2 g c =
     let m =
-    (bare _ _ _ _ _ _
+    (bare _ _ _ _ _ _ _
     (record { log = c.self.inside.log; core = c.self.inside.core; errors = c.self.inside.recorder })
     (record { log = c.enter-slip.new.self; core = c.sync_drop-answer.new.self; errors = c.self.inside.recorder })
     c.args.seat.now c.enter-slip.new.seat c.enter-slip.result c.self.invariant.0
@@ -67,7 +67,7 @@ returns-then-lacks_entry-clause-denied g c =
     let x = refused_by c.sync_drop-answer.result c.is_err.result c.is_err.ensures.value c.if-lacks_entry.ensures.yes.0 in
     let back = drop_back c.self.inside.core c.sync_drop-answer.new.self c.args.sync c.sync_drop-answer.result
     c.sync_drop-answer.ensures.step c.sync_drop-answer.ensures.lists x.0 x.1 in
-    full_denied _ _ _ _ _ _ (event.SyncDrop c.args.sync)
+    full_denied _ _ _ _ _ _ _ (event.SyncDrop c.args.sync)
     (record { log = c.self.inside.log; core = c.self.inside.core; errors = c.self.inside.recorder }) c.args.self.now
     (record { log = c.full.new.self; core = c.sync_drop-answer.new.self; errors = c.self.inside.recorder })
     c.args.seat.now c.full.new.seat c.full.result c.self.invariant.0 c.self.view_is

@@ -1,8 +1,9 @@
-use Rattle.std.proofs.Common.{rules, ap}
+use Rattle.std.proofs.Common.{ap}
 use Rattle.cachecore.specs.Core.{Core}
-use Rattle.held.proofs.Openings.{opens}
+use Rattle.machine.specs.Catalogs.{no_catalog}
+use Rattle.machine.proofs.changes.Adopted.{no_catalog_is}
 use Rattle.held.proofs.state.Opened.new.Goals as goal
 
-pub invariant_of-opened : goal.invariant_of-opened
-invariant_of-opened g c = opens _ _ c.args.geometry.now c.args.name (search rules)
-    (ap (λ (x : Core). x.state) c.in-Ok-new.ensures.empty) (search rules)
+pub open-requires-clause-fresh : goal.open-requires-clause-fresh
+open-requires-clause-fresh g c =
+    (c.args.geometry.now, (no_catalog, (no_catalog_is c.args.geometry.now, ap (λ (x : Core). x.state) c.in-Ok-new.ensures.empty)))

@@ -63,7 +63,7 @@ returns-in-Err-clause-missed g c =
 
 pub returns-in-Err-clause-denied : goal.returns-in-Err-clause-denied
 returns-in-Err-clause-denied g c =
-    call_on g.B.Naming.sizes g.B.Naming.name g.B.Naming.whole c.args.handle (event_of c.args.change c.args.handle c.args.bytes.now) c.args.seat.now c.attempts.seat
+    call_on g.B.Naming.files g.B.Naming.sizes g.B.Naming.name g.B.Naming.whole c.args.handle (event_of c.args.change c.args.handle c.args.bytes.now) c.args.seat.now c.attempts.seat
     c.try_change.new.seat c.in-Err.denied c.attempts.invariant.goes c.in-Err.ensures.denied
 
 pub returns-in-Ok-Some-clause-first : goal.returns-in-Ok-Some-clause-first

@@ -53,5 +53,5 @@ pub returns-in-Err-clause-denied : goal.returns-in-Err-clause-denied
 returns-in-Err-clause-denied g c =
     let first = c.args.worker.now.seat in
     let seat = c.has_spare.new.seat in
-    full_for_on g.B.Naming.sizes g.B.Naming.name g.B.Naming.whole IsEviction first seat c.evict_one.new.seat c.in-Err.denied
+    full_for_on g.B.Naming.files g.B.Naming.sizes g.B.Naming.name g.B.Naming.whole IsEviction first seat c.evict_one.new.seat c.in-Err.denied
     (goes_on first c.pages.worker.seat seat c.pages.invariant.goes c.has_spare.ensures.goes) c.in-Err.ensures.denied

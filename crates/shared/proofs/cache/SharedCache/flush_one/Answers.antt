@@ -28,8 +28,8 @@ flush_by-is_written-requires-clause-kind g c =
 
 pub returns-in-Ok-wait_or-clause-settled : goal.returns-in-Ok-wait_or-clause-settled
 returns-in-Ok-wait_or-clause-settled g c =
-    settles_first_denied g.B.Naming.sizes g.B.Naming.whole g.B.Naming.name _ _ _ _ _ c.in-Err-flush_first.ensures.denied
+    settles_first_denied g.B.Naming.files g.B.Naming.sizes g.B.Naming.whole g.B.Naming.name _ _ _ _ _ c.in-Err-flush_first.ensures.denied
 
 pub returns-in-Err-wait_or-clause-settled : goal.returns-in-Err-wait_or-clause-settled
 returns-in-Err-wait_or-clause-settled g c =
-    settles_first_denied g.B.Naming.sizes g.B.Naming.whole g.B.Naming.name _ _ _ _ _ c.in-Err-flush_first.ensures.denied
+    settles_first_denied g.B.Naming.files g.B.Naming.sizes g.B.Naming.whole g.B.Naming.name _ _ _ _ _ c.in-Err-flush_first.ensures.denied

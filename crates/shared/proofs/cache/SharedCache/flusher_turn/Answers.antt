@@ -20,9 +20,9 @@ pub returns-clause-done : goal.returns-clause-done
 returns-clause-done g c = (
   c.in-Err-put.job,
   sym c.end_job.ensures.ended.0,
-  subst (λ (j : Task). Begins g.B.Naming.sizes g.B.Naming.name j c.args.worker.now.seat c.end_job.new.seat c.in-Ok-Some.begun.1)
+  subst (λ (j : Task). Begins g.B.Naming.files g.B.Naming.sizes g.B.Naming.name j c.args.worker.now.seat c.end_job.new.seat c.in-Ok-Some.begun.1)
       (sym c.in-Err-put.ensures.answer.0)
-      (begins_then g.B.Naming.sizes g.B.Naming.name c.in-Ok-Some.begun.0 c.args.worker.now.seat c.begin_flush.new.seat
+      (begins_then g.B.Naming.files g.B.Naming.sizes g.B.Naming.name c.in-Ok-Some.begun.0 c.args.worker.now.seat c.begin_flush.new.seat
       c.end_job.new.seat c.in-Ok-Some.begun.1 (rw c.in-Ok-Some.field-0-is at c.in-Ok-Some.ensures.begun) c.end_job.ensures.goes),
   ends_on c.in-Err-put.job c.args.worker.now.seat c.begin_flush.new.seat c.end_job.new.seat c.end_job.result.slip
       (is_some c.end_job.result.failed) c.begin_flush.ensures.goes c.end_job.ensures.ended.1,

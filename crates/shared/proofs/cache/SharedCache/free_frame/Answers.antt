@@ -30,7 +30,7 @@ returns-in-Ok-false-clause-settled g c =
 
 pub returns-in-Ok-false-clause-denied : goal.returns-in-Ok-false-clause-denied
 returns-in-Ok-false-clause-denied g c =
-    IfErr-weaker c.flush_one.result (IsDenied g.B.Naming.sizes g.B.Naming.name g.B.Naming.whole IsRoomEvent c.evict_idle.new.seat c.flush_one.new.seat)
-    (IsDenied g.B.Naming.sizes g.B.Naming.name g.B.Naming.whole IsRoomEvent c.args.seat.now c.flush_one.new.seat)
-    (λ d q. room_on g.B.Naming.sizes g.B.Naming.name g.B.Naming.whole c.args.seat.now c.evict_idle.new.seat c.flush_one.new.seat d c.evict_idle.ensures.goes q)
+    IfErr-weaker c.flush_one.result (IsDenied g.B.Naming.files g.B.Naming.sizes g.B.Naming.name g.B.Naming.whole IsRoomEvent c.evict_idle.new.seat c.flush_one.new.seat)
+    (IsDenied g.B.Naming.files g.B.Naming.sizes g.B.Naming.name g.B.Naming.whole IsRoomEvent c.args.seat.now c.flush_one.new.seat)
+    (λ d q. room_on g.B.Naming.files g.B.Naming.sizes g.B.Naming.name g.B.Naming.whole c.args.seat.now c.evict_idle.new.seat c.flush_one.new.seat d c.evict_idle.ensures.goes q)
     c.flush_one.ensures.denied

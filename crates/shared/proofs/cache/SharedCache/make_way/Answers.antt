@@ -24,4 +24,4 @@ returns-in-Err-clause-settled g c =
 
 pub returns-in-Err-clause-denied : goal.returns-in-Err-clause-denied
 returns-in-Err-clause-denied g c =
-    room_on g.B.Naming.sizes g.B.Naming.name g.B.Naming.whole c.args.seat.now c.turns.seat c.make_room.new.seat c.in-Err.denied c.turns.invariant.goes c.in-Err.ensures.denied
+    room_on g.B.Naming.files g.B.Naming.sizes g.B.Naming.name g.B.Naming.whole c.args.seat.now c.turns.seat c.make_room.new.seat c.in-Err.denied c.turns.invariant.goes c.in-Err.ensures.denied

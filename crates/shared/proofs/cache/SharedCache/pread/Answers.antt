@@ -122,11 +122,11 @@ returns-in-Err-try_read-clause-missed g c =
 pub returns-in-Err-try_read-clause-denied : goal.returns-in-Err-try_read-clause-denied
 returns-in-Err-try_read-clause-denied g c own here =
     let h = c.args.handle.now.number in
-    call_on g.B.Naming.sizes g.B.Naming.name g.B.Naming.whole h (event.Read h c.args.offset (length c.args.out.now)) c.args.seat.now c.attempts.seat c.try_read.new.seat
+    call_on g.B.Naming.files g.B.Naming.sizes g.B.Naming.name g.B.Naming.whole h (event.Read h c.args.offset (length c.args.out.now)) c.args.seat.now c.attempts.seat c.try_read.new.seat
     c.in-Err-try_read.denied c.attempts.invariant.goes
-    (subst (λ (n : HandleId). IsDenied g.B.Naming.sizes g.B.Naming.name g.B.Naming.whole (IsCallOf n (event.Read n c.args.offset (length c.args.out.now))) c.attempts.seat
+    (subst (λ (n : HandleId). IsDenied g.B.Naming.files g.B.Naming.sizes g.B.Naming.name g.B.Naming.whole (IsCallOf n (event.Read n c.args.offset (length c.args.out.now))) c.attempts.seat
     c.try_read.new.seat c.in-Err-try_read.denied) (ap (λ (x : HandleSeen). x.number) c.handle.view_is)
-    (subst (λ (l : List ℕ). IsDenied g.B.Naming.sizes g.B.Naming.name g.B.Naming.whole (IsCallOf c.handle.inside.number (event.Read c.handle.inside.number c.args.offset (length l)))
+    (subst (λ (l : List ℕ). IsDenied g.B.Naming.files g.B.Naming.sizes g.B.Naming.name g.B.Naming.whole (IsCallOf c.handle.inside.number (event.Read c.handle.inside.number c.args.offset (length l)))
     c.attempts.seat c.try_read.new.seat c.in-Err-try_read.denied) c.attempts.invariant.out c.in-Err-try_read.ensures.denied))
 
 pub returns-in-Ok-Some-clause-first : goal.returns-in-Ok-Some-clause-first

@@ -15,15 +15,15 @@ use Rattle.shared.proofs.cache.SharedCache.seek.Goals as goal
 
 pub returns-in-End-clause-sought : goal.returns-in-End-clause-sought
 returns-in-End-clause-sought g c own here =
-    subst (λ (p : Seek). Seeks g.B.Naming.sizes g.B.Naming.name g.B.Naming.whole p c.args.handle.now c.args.seat.now c.size.new.seat (Err c.in-Err-size.denied))
+    subst (λ (p : Seek). Seeks g.B.Naming.files g.B.Naming.sizes g.B.Naming.name g.B.Naming.whole p c.args.handle.now c.args.seat.now c.size.new.seat (Err c.in-Err-size.denied))
     (sym c.in-End.is) (inr (
-      subst (λ (n : HandleId). IsDenied g.B.Naming.sizes g.B.Naming.name g.B.Naming.whole (λ e. e ≡ event.Size n) c.args.seat.now c.size.new.seat c.in-Err-size.denied)
+      subst (λ (n : HandleId). IsDenied g.B.Naming.files g.B.Naming.sizes g.B.Naming.name g.B.Naming.whole (λ e. e ≡ event.Size n) c.args.seat.now c.size.new.seat c.in-Err-size.denied)
           (ap (λ (h : HandleSeen). h.number) c.handle.view_is)
-          (denied_event g.B.Naming.sizes g.B.Naming.name g.B.Naming.whole (event.Size c.handle.inside.number) c.deref_mut.result.now c.size.new.self c.args.seat.now
+          (denied_event g.B.Naming.files g.B.Naming.sizes g.B.Naming.name g.B.Naming.whole (event.Size c.handle.inside.number) c.deref_mut.result.now c.size.new.self c.args.seat.now
           c.size.new.seat c.in-Err-size.denied c.in-Err-size.ensures.denied),
-      full_by g.B.Naming.sizes g.B.Naming.name g.B.Naming.whole (event.Size c.handle.inside.number) c.deref_mut.result.now c.size.new.self c.args.seat.now
+      full_by g.B.Naming.files g.B.Naming.sizes g.B.Naming.name g.B.Naming.whole (event.Size c.handle.inside.number) c.deref_mut.result.now c.size.new.self c.args.seat.now
           c.size.new.seat c.in-Err-size.denied c.in-Err-size.ensures.denied,
-      denied_one g.B.Naming.sizes g.B.Naming.name g.B.Naming.whole (event.Size c.handle.inside.number) c.deref_mut.result.now c.size.new.self c.args.seat.now
+      denied_one g.B.Naming.files g.B.Naming.sizes g.B.Naming.name g.B.Naming.whole (event.Size c.handle.inside.number) c.deref_mut.result.now c.size.new.self c.args.seat.now
           c.size.new.seat c.in-Err-size.denied c.in-Err-size.ensures.denied,
     ))
 
@@ -40,7 +40,7 @@ returns-in-Ok-clause-sought g c own here =
     (ap (λ (h : HandleSeen). h.number) c.handle.view_is) (makes_by _ _ _ _ _ _ _ c.in-Ok.ensures.made) in
     let at : c.put.result ≡ with_slip (Some c.in-Ok.slip)
     (placed (target c.args.place c.args.handle.now.cursor c.in-Ok.size)) = search rules in
-    subst (λ (p : Seek). Seeks g.B.Naming.sizes g.B.Naming.name g.B.Naming.whole p c.args.handle.now c.args.seat.now c.size.new.seat c.put.result) (sym c.in-End.is) (inl (
+    subst (λ (p : Seek). Seeks g.B.Naming.files g.B.Naming.sizes g.B.Naming.name g.B.Naming.whole p c.args.handle.now c.args.seat.now c.size.new.seat c.put.result) (sym c.in-End.is) (inl (
       c.in-Ok.size,
       c.in-Ok.slip,
       makes,

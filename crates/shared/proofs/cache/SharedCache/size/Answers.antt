@@ -15,14 +15,14 @@ use Rattle.shared.proofs.cache.SharedCache.size.Goals as goal
 
 pub returns-clause-denied : goal.returns-clause-denied
 returns-clause-denied g c own here =
-    subst (λ (n : HandleId). IfErr c.size.result (IsDenied g.B.Naming.sizes g.B.Naming.name g.B.Naming.whole (λ e. e ≡ event.Size n) c.args.seat.now c.size.new.seat))
+    subst (λ (n : HandleId). IfErr c.size.result (IsDenied g.B.Naming.files g.B.Naming.sizes g.B.Naming.name g.B.Naming.whole (λ e. e ≡ event.Size n) c.args.seat.now c.size.new.seat))
     (ap (λ (h : HandleSeen). h.number) c.handle.view_is)
-    (event_denied g.B.Naming.sizes g.B.Naming.name g.B.Naming.whole c.size.result (event.Size c.handle.inside.number) c.deref_mut.result.now c.size.new.self
+    (event_denied g.B.Naming.files g.B.Naming.sizes g.B.Naming.name g.B.Naming.whole c.size.result (event.Size c.handle.inside.number) c.deref_mut.result.now c.size.new.self
     c.args.seat.now c.size.new.seat c.size.ensures.denied)
 
 pub returns-clause-full : goal.returns-clause-full
 returns-clause-full g c own here =
-    event_full g.B.Naming.sizes g.B.Naming.name g.B.Naming.whole c.size.result (event.Size c.handle.inside.number) c.deref_mut.result.now c.size.new.self
+    event_full g.B.Naming.files g.B.Naming.sizes g.B.Naming.name g.B.Naming.whole c.size.result (event.Size c.handle.inside.number) c.deref_mut.result.now c.size.new.self
     c.args.seat.now c.size.new.seat c.size.ensures.denied
 
 pub returns-clause-only : goal.returns-clause-only
@@ -31,11 +31,11 @@ returns-clause-only g c =
     (ap (λ (h : HandleSeen). h.number) c.handle.view_is)
     (only_answered (λ x. x.event ≡ event.Size c.handle.inside.number) c.args.seat.now c.size.new.seat _ _ c.size.result
     c.size.ensures.made c.size.ensures.denied (λ r m. only_event _ _ _ _ _ _ _ m tt)
-    (λ d q. only_event_denied g.B.Naming.sizes g.B.Naming.name g.B.Naming.whole (event.Size c.handle.inside.number) c.deref_mut.result.now c.size.new.self c.args.seat.now
+    (λ d q. only_event_denied g.B.Naming.files g.B.Naming.sizes g.B.Naming.name g.B.Naming.whole (event.Size c.handle.inside.number) c.deref_mut.result.now c.size.new.self c.args.seat.now
     c.size.new.seat d q tt))
 
 pub returns-clause-refused_once : goal.returns-clause-refused_once
-returns-clause-refused_once g c = event_once g.B.Naming.sizes g.B.Naming.name g.B.Naming.whole c.size.result (event.Size c.handle.inside.number) c.deref_mut.result.now c.size.new.self c.args.seat.now c.size.new.seat
+returns-clause-refused_once g c = event_once g.B.Naming.files g.B.Naming.sizes g.B.Naming.name g.B.Naming.whole c.size.result (event.Size c.handle.inside.number) c.deref_mut.result.now c.size.new.self c.args.seat.now c.size.new.seat
     c.size.ensures.denied
 
 pub returns-clause-answer : goal.returns-clause-answer

@@ -17,24 +17,24 @@ use Rattle.shared.proofs.Syncing.{step_full}
 use Rattle.shared.proofs.cache.SharedCache.sync_turn.Goals as goal
 
 pub returns-in-Err-wait_or-clause-goes : goal.returns-in-Err-wait_or-clause-goes
-returns-in-Err-wait_or-clause-goes g c = goes_denied g.B.Naming.sizes g.B.Naming.name g.B.Naming.whole (event.SyncStep c.args.sync) c.deref_mut.result.now
+returns-in-Err-wait_or-clause-goes g c = goes_denied g.B.Naming.files g.B.Naming.sizes g.B.Naming.name g.B.Naming.whole (event.SyncStep c.args.sync) c.deref_mut.result.now
     c.sync_step.new.self c.args.seat.now c.sync_step.new.seat c.in-Err.denied
     c.in-Err.ensures.denied
 
 pub returns-in-Err-wait_or-clause-denied : goal.returns-in-Err-wait_or-clause-denied
 returns-in-Err-wait_or-clause-denied g c =
-    subst (IsDenied g.B.Naming.sizes g.B.Naming.name g.B.Naming.whole (λ e. e ≡ event.SyncStep c.args.sync) c.args.seat.now c.sync_step.new.seat) (sym c.in-Err-wait_or.ensures.denied)
-    (denied_event g.B.Naming.sizes g.B.Naming.name g.B.Naming.whole (event.SyncStep c.args.sync) c.deref_mut.result.now c.sync_step.new.self c.args.seat.now c.sync_step.new.seat
+    subst (IsDenied g.B.Naming.files g.B.Naming.sizes g.B.Naming.name g.B.Naming.whole (λ e. e ≡ event.SyncStep c.args.sync) c.args.seat.now c.sync_step.new.seat) (sym c.in-Err-wait_or.ensures.denied)
+    (denied_event g.B.Naming.files g.B.Naming.sizes g.B.Naming.name g.B.Naming.whole (event.SyncStep c.args.sync) c.deref_mut.result.now c.sync_step.new.self c.args.seat.now c.sync_step.new.seat
     c.in-Err.denied c.in-Err.ensures.denied)
 
 pub returns-in-Ok-wait_or-clause-goes_on : goal.returns-in-Ok-wait_or-clause-goes_on
 returns-in-Ok-wait_or-clause-goes_on g c =
-    try_denied g.B.Naming.sizes g.B.Naming.name g.B.Naming.whole c.args.sync c.deref_mut.result.now c.sync_step.new.self c.args.seat.now c.sync_step.new.seat
+    try_denied g.B.Naming.files g.B.Naming.sizes g.B.Naming.name g.B.Naming.whole c.args.sync c.deref_mut.result.now c.sync_step.new.self c.args.seat.now c.sync_step.new.seat
     c.in-Err.denied c.in-Err.ensures.denied
 
 pub returns-in-Err-wait_or-clause-tried : goal.returns-in-Err-wait_or-clause-tried
 returns-in-Err-wait_or-clause-tried g c =
-    try_denied g.B.Naming.sizes g.B.Naming.name g.B.Naming.whole c.args.sync c.deref_mut.result.now c.sync_step.new.self c.args.seat.now c.sync_step.new.seat
+    try_denied g.B.Naming.files g.B.Naming.sizes g.B.Naming.name g.B.Naming.whole c.args.sync c.deref_mut.result.now c.sync_step.new.self c.args.seat.now c.sync_step.new.seat
     c.in-Err.denied c.in-Err.ensures.denied
 
 pub returns-in-Wait-clause-goes_on : goal.returns-in-Wait-clause-goes_on
@@ -53,13 +53,13 @@ returns-clause-goes_on g c =
 -- the refusal stands, in the hold that says whether a request is in flight
 pub returns-in-Err-wait_or-clause-stands : goal.returns-in-Err-wait_or-clause-stands
 returns-in-Err-wait_or-clause-stands g c =
-    step_final g.B.Naming.whole g.B.Naming.sizes g.B.Naming.name c.args.sync c.deref_mut.result.now c.sync_step.new.self c.args.seat.now
+    step_final g.B.Naming.whole g.B.Naming.files g.B.Naming.sizes g.B.Naming.name c.args.sync c.deref_mut.result.now c.sync_step.new.self c.args.seat.now
     c.sync_step.new.seat c.in-Err.denied c.in-Err-wait_or.denied c.in-Err.ensures.denied
     c.wait_or.ensures.legal c.in-Err-wait_or.ensures.denied c.in-Err-wait_or.ensures.still
 
 pub returns-in-Err-wait_or-clause-full : goal.returns-in-Err-wait_or-clause-full
 returns-in-Err-wait_or-clause-full g c =
-    step_full g.B.Naming.sizes g.B.Naming.name g.B.Naming.whole c.args.sync c.deref_mut.result.now c.sync_step.new.self c.args.seat.now c.sync_step.new.seat
+    step_full g.B.Naming.files g.B.Naming.sizes g.B.Naming.name g.B.Naming.whole c.args.sync c.deref_mut.result.now c.sync_step.new.self c.args.seat.now c.sync_step.new.seat
     c.in-Err.denied c.in-Err-wait_or.denied c.in-Err.ensures.denied c.in-Err-wait_or.ensures.denied
 
 -- the buffer came back
@@ -86,9 +86,9 @@ pub returns-in-Clean-clause-hears : goal.returns-in-Clean-clause-hears
 returns-in-Clean-clause-hears g c =
     let same : c.deref_mut-in-Clean.result.now ≡ c.sync_step.new.self =
     search (rules, c.deref_mut-in-Clean.ensures.value) in
-    subst (λ (s : Slip). Hears g.B.Naming.sizes g.B.Naming.name s c.sync_step.new.seat c.over.new.pass)
+    subst (λ (s : Slip). Hears g.B.Naming.files g.B.Naming.sizes g.B.Naming.name s c.sync_step.new.seat c.over.new.pass)
     (sym (ap (λ (x : Synced). x.slip) c.over.ensures.is))
-    (hears_by g.B.Naming.sizes g.B.Naming.name (event.SyncStep c.args.sync) _ c.deref_mut.result.now c.sync_step.new.self
+    (hears_by g.B.Naming.files g.B.Naming.sizes g.B.Naming.name (event.SyncStep c.args.sync) _ c.deref_mut.result.now c.sync_step.new.self
     c.deref_mut-in-Clean.result.now c.args.seat.now c.sync_step.new.seat c.in-Ok.made.1 c.over.new.pass
     c.in-Ok.ensures.made same c.over.ensures.legal c.over.ensures.known)
 
@@ -96,9 +96,9 @@ pub returns-in-Failed-clause-hears : goal.returns-in-Failed-clause-hears
 returns-in-Failed-clause-hears g c =
     let same : c.deref_mut-in-Failed.result.now ≡ c.sync_step.new.self =
     search (rules, c.deref_mut-in-Failed.ensures.value) in
-    subst (λ (s : Slip). Hears g.B.Naming.sizes g.B.Naming.name s c.sync_step.new.seat c.over-in-Failed.new.pass)
+    subst (λ (s : Slip). Hears g.B.Naming.files g.B.Naming.sizes g.B.Naming.name s c.sync_step.new.seat c.over-in-Failed.new.pass)
     (sym (ap (λ (x : Synced). x.slip) c.over-in-Failed.ensures.is))
-    (hears_by g.B.Naming.sizes g.B.Naming.name (event.SyncStep c.args.sync) _ c.deref_mut.result.now c.sync_step.new.self
+    (hears_by g.B.Naming.files g.B.Naming.sizes g.B.Naming.name (event.SyncStep c.args.sync) _ c.deref_mut.result.now c.sync_step.new.self
     c.deref_mut-in-Failed.result.now c.args.seat.now c.sync_step.new.seat c.in-Ok.made.1
     c.over-in-Failed.new.pass c.in-Ok.ensures.made same c.over-in-Failed.ensures.legal
     c.over-in-Failed.ensures.known)
@@ -106,12 +106,12 @@ returns-in-Failed-clause-hears g c =
 -- what it began is ended
 pub returns-in-Ok-wait_or-clause-settled : goal.returns-in-Ok-wait_or-clause-settled
 returns-in-Ok-wait_or-clause-settled g c =
-    settles_denied g.B.Naming.sizes g.B.Naming.whole g.B.Naming.name (event.SyncStep c.args.sync) c.deref_mut.result.now c.sync_step.new.self c.args.seat.now
+    settles_denied g.B.Naming.files g.B.Naming.sizes g.B.Naming.whole g.B.Naming.name (event.SyncStep c.args.sync) c.deref_mut.result.now c.sync_step.new.self c.args.seat.now
     c.sync_step.new.seat c.in-Err.denied (λ is. is) c.in-Err.ensures.denied
 
 pub returns-in-Err-wait_or-clause-settled : goal.returns-in-Err-wait_or-clause-settled
 returns-in-Err-wait_or-clause-settled g c =
-    (settles_denied g.B.Naming.sizes g.B.Naming.whole g.B.Naming.name (event.SyncStep c.args.sync) c.deref_mut.result.now c.sync_step.new.self
+    (settles_denied g.B.Naming.files g.B.Naming.sizes g.B.Naming.whole g.B.Naming.name (event.SyncStep c.args.sync) c.deref_mut.result.now c.sync_step.new.self
     c.args.seat.now c.sync_step.new.seat c.in-Err.denied (λ is. is) c.in-Err.ensures.denied)
 
 pub returns-in-Wait-clause-settled : goal.returns-in-Wait-clause-settled

@@ -25,7 +25,7 @@ turns-preserved g c = record {
 }
 
 pub returns-in-Err-clause-denied : goal.returns-in-Err-clause-denied
-returns-in-Err-clause-denied g c = turn_on g.B.Naming.sizes g.B.Naming.name g.B.Naming.whole c.args.sync c.args.seat.now c.turns.seat c.sync_turn.new.seat c.in-Err.denied
+returns-in-Err-clause-denied g c = turn_on g.B.Naming.files g.B.Naming.sizes g.B.Naming.name g.B.Naming.whole c.args.sync c.args.seat.now c.turns.seat c.sync_turn.new.seat c.in-Err.denied
     c.turns.invariant.goes c.in-Err.ensures.denied
 
 pub returns-in-Some-ended-clause-settled : goal.returns-in-Some-ended-clause-settled

@@ -18,7 +18,7 @@ use Rattle.shared.proofs.cache.SharedCache.try_change.Goals as goal
 
 pub returns-in-Err-settle-clause-denied : goal.returns-in-Err-settle-clause-denied
 returns-in-Err-settle-clause-denied g c =
-    call_settled g.B.Naming.sizes g.B.Naming.name g.B.Naming.whole c.args.handle (event_of c.args.change c.args.handle c.args.bytes.now) c.deref_mut.result.now
+    call_settled g.B.Naming.files g.B.Naming.sizes g.B.Naming.name g.B.Naming.whole c.args.handle (event_of c.args.change c.args.handle c.args.bytes.now) c.deref_mut.result.now
     c.change_by.new.state c.args.seat.now c.change_by.new.seat c.settle.new.seat c.in-Err.denied
     c.in-Err-settle.denied c.in-Err.ensures.denied c.settle.ensures.goes c.in-Err-settle.ensures.denied
 
@@ -34,20 +34,20 @@ returns-in-Wrote-clause-whole g c =
 
 pub returns-in-Err-fill-clause-denied : goal.returns-in-Err-fill-clause-denied
 returns-in-Err-fill-clause-denied g c =
-    call_help g.B.Naming.sizes g.B.Naming.name g.B.Naming.whole c.args.handle (event_of c.args.change c.args.handle c.args.bytes.now) c.args.seat.now
+    call_help g.B.Naming.files g.B.Naming.sizes g.B.Naming.name g.B.Naming.whole c.args.handle (event_of c.args.change c.args.handle c.args.bytes.now) c.args.seat.now
     c.change_by.new.seat c.fill.new.seat c.in-Err-fill.denied (goes_by _ _ _ _ _ _ _ c.in-Ok.ensures.made)
-    (subst (λ (h : HandleId). IsDenied g.B.Naming.sizes g.B.Naming.name g.B.Naming.whole (IsHelp h) c.change_by.new.seat c.fill.new.seat c.in-Err-fill.denied)
+    (subst (λ (h : HandleId). IsDenied g.B.Naming.files g.B.Naming.sizes g.B.Naming.name g.B.Naming.whole (IsHelp h) c.change_by.new.seat c.fill.new.seat c.in-Err-fill.denied)
     c.span_of-span.ensures c.in-Err-fill.ensures.denied)
 
 pub returns-in-Ok-settle-clause-goes : goal.returns-in-Ok-settle-clause-goes
 returns-in-Ok-settle-clause-goes g c =
-    goes_on c.args.seat.now c.change_by.new.seat c.settle.new.seat (goes_denied g.B.Naming.sizes g.B.Naming.name g.B.Naming.whole (event_of c.args.change c.args.handle c.args.bytes.now) c.deref_mut.result.now
+    goes_on c.args.seat.now c.change_by.new.seat c.settle.new.seat (goes_denied g.B.Naming.files g.B.Naming.sizes g.B.Naming.name g.B.Naming.whole (event_of c.args.change c.args.handle c.args.bytes.now) c.deref_mut.result.now
     c.change_by.new.state c.args.seat.now c.change_by.new.seat c.in-Err.denied c.in-Err.ensures.denied)
     c.settle.ensures.goes
 
 pub returns-in-Err-settle-clause-goes : goal.returns-in-Err-settle-clause-goes
 returns-in-Err-settle-clause-goes g c =
-    goes_on c.args.seat.now c.change_by.new.seat c.settle.new.seat (goes_denied g.B.Naming.sizes g.B.Naming.name g.B.Naming.whole (event_of c.args.change c.args.handle c.args.bytes.now) c.deref_mut.result.now
+    goes_on c.args.seat.now c.change_by.new.seat c.settle.new.seat (goes_denied g.B.Naming.files g.B.Naming.sizes g.B.Naming.name g.B.Naming.whole (event_of c.args.change c.args.handle c.args.bytes.now) c.deref_mut.result.now
     c.change_by.new.state c.args.seat.now c.change_by.new.seat c.in-Err.denied c.in-Err.ensures.denied)
     c.settle.ensures.goes
 
@@ -88,13 +88,13 @@ returns-in-Err-fill-clause-only g c =
 
 pub returns-in-Ok-settle-clause-tried : goal.returns-in-Ok-settle-clause-tried
 returns-in-Ok-settle-clause-tried g c =
-    only_settled g.B.Naming.sizes g.B.Naming.name g.B.Naming.whole c.args.handle (event_of c.args.change c.args.handle c.args.bytes.now) c.deref_mut.result.now
+    only_settled g.B.Naming.files g.B.Naming.sizes g.B.Naming.name g.B.Naming.whole c.args.handle (event_of c.args.change c.args.handle c.args.bytes.now) c.deref_mut.result.now
     c.change_by.new.state c.args.seat.now c.change_by.new.seat c.settle.new.seat c.in-Err.denied c.in-Err.ensures.denied
     (change_plain c.args.change c.args.handle c.args.bytes.now) c.settle.ensures.only
 
 pub returns-in-Err-settle-clause-only : goal.returns-in-Err-settle-clause-only
 returns-in-Err-settle-clause-only g c =
-    only_settled g.B.Naming.sizes g.B.Naming.name g.B.Naming.whole c.args.handle (event_of c.args.change c.args.handle c.args.bytes.now) c.deref_mut.result.now
+    only_settled g.B.Naming.files g.B.Naming.sizes g.B.Naming.name g.B.Naming.whole c.args.handle (event_of c.args.change c.args.handle c.args.bytes.now) c.deref_mut.result.now
     c.change_by.new.state c.args.seat.now c.change_by.new.seat c.settle.new.seat c.in-Err.denied c.in-Err.ensures.denied
     (change_plain c.args.change c.args.handle c.args.bytes.now) c.settle.ensures.only
 
@@ -104,21 +104,21 @@ returns-in-Wrote-clause-once g c = once_by _ _ _ _ _ _ _ _ c.in-Ok.ensures.made
 -- the change was refused, and stands so if the cache is crammed
 pub returns-in-Err-settle-clause-lost : goal.returns-in-Err-settle-clause-lost
 returns-in-Err-settle-clause-lost g c =
-    lost_denied g.B.Naming.whole g.B.Naming.sizes g.B.Naming.name (event_of c.args.change c.args.handle c.args.bytes.now) c.deref_mut.result.now
+    lost_denied g.B.Naming.whole g.B.Naming.files g.B.Naming.sizes g.B.Naming.name (event_of c.args.change c.args.handle c.args.bytes.now) c.deref_mut.result.now
     c.change_by.new.state c.args.seat.now c.change_by.new.seat c.settle.new.seat c.in-Err.denied c.in-Err-settle.denied
     c.settle.ensures.within (change_asked c.args.change c.args.handle c.args.bytes.now) c.in-Err.ensures.denied
     c.settle.ensures.legal c.settle.ensures.goes c.in-Err-settle.ensures.crammed
 
 pub returns-in-Err-settle-clause-stands : goal.returns-in-Err-settle-clause-stands
 returns-in-Err-settle-clause-stands g c =
-    final_denied g.B.Naming.whole g.B.Naming.sizes g.B.Naming.name (event_of c.args.change c.args.handle c.args.bytes.now) c.deref_mut.result.now
+    final_denied g.B.Naming.whole g.B.Naming.files g.B.Naming.sizes g.B.Naming.name (event_of c.args.change c.args.handle c.args.bytes.now) c.deref_mut.result.now
     c.change_by.new.state c.args.seat.now c.change_by.new.seat c.settle.new.seat c.in-Err.denied c.in-Err-settle.denied
     c.in-Err.ensures.denied c.settle.ensures.legal c.settle.ensures.goes c.in-Err-settle.ensures.stands
 
 -- memory is asked for after the change was refused for want of room, or its page was missing
 pub returns-in-Err-settle-clause-wanting : goal.returns-in-Err-settle-clause-wanting
 returns-in-Err-settle-clause-wanting g c =
-    short_settled g.B.Naming.sizes g.B.Naming.name g.B.Naming.whole c.args.change c.args.handle c.args.bytes.now c.deref_mut.result.now c.change_by.new.state c.args.seat.now
+    short_settled g.B.Naming.files g.B.Naming.sizes g.B.Naming.name g.B.Naming.whole c.args.change c.args.handle c.args.bytes.now c.deref_mut.result.now c.change_by.new.state c.args.seat.now
     c.change_by.new.seat c.settle.new.seat c.in-Err.denied c.in-Err-settle.denied c.in-Err.ensures.denied
     c.settle.ensures.goes c.in-Err-settle.ensures.other
 
@@ -156,14 +156,14 @@ returns-in-Err-fill-clause-settled g c =
 pub returns-in-Ok-settle-clause-settled : goal.returns-in-Ok-settle-clause-settled
 returns-in-Ok-settle-clause-settled g c =
     settles_on g.B.Naming.name c.args.seat.now c.change_by.new.seat c.settle.new.seat
-    (settles_denied g.B.Naming.sizes g.B.Naming.whole g.B.Naming.name (event_of c.args.change c.args.handle c.args.bytes.now) c.deref_mut.result.now
+    (settles_denied g.B.Naming.files g.B.Naming.sizes g.B.Naming.whole g.B.Naming.name (event_of c.args.change c.args.handle c.args.bytes.now) c.deref_mut.result.now
     c.change_by.new.state c.args.seat.now c.change_by.new.seat c.in-Err.denied
     (change_ends c.args.change c.args.handle c.args.bytes.now) c.in-Err.ensures.denied) c.in-Ok-settle.ensures.settled
 
 pub returns-in-Err-settle-clause-settled : goal.returns-in-Err-settle-clause-settled
 returns-in-Err-settle-clause-settled g c =
     settles_on g.B.Naming.name c.args.seat.now c.change_by.new.seat c.settle.new.seat
-    (settles_denied g.B.Naming.sizes g.B.Naming.whole g.B.Naming.name (event_of c.args.change c.args.handle c.args.bytes.now) c.deref_mut.result.now
+    (settles_denied g.B.Naming.files g.B.Naming.sizes g.B.Naming.whole g.B.Naming.name (event_of c.args.change c.args.handle c.args.bytes.now) c.deref_mut.result.now
     c.change_by.new.state c.args.seat.now c.change_by.new.seat c.in-Err.denied
     (change_ends c.args.change c.args.handle c.args.bytes.now) c.in-Err.ensures.denied) c.in-Err-settle.ensures.settled
 
@@ -199,7 +199,7 @@ pub returns-in-Ok-settle-clause-missed : goal.returns-in-Ok-settle-clause-missed
 returns-in-Ok-settle-clause-missed g c =
     let own = event_of c.args.change c.args.handle c.args.bytes.now in
     missed_on own c.args.seat.now c.change_by.new.seat c.settle.new.seat
-    (missed_denied g.B.Naming.sizes g.B.Naming.name g.B.Naming.whole own own c.deref_mut.result.now c.change_by.new.state c.args.seat.now c.change_by.new.seat c.in-Err.denied
+    (missed_denied g.B.Naming.files g.B.Naming.sizes g.B.Naming.name g.B.Naming.whole own own c.deref_mut.result.now c.change_by.new.state c.args.seat.now c.change_by.new.seat c.in-Err.denied
     (λ p r f. change_fills p c.args.change c.args.handle c.args.bytes.now r f) c.in-Err.ensures.denied)
     (missed_room own c.change_by.new.seat c.settle.new.seat c.settle.ensures.only)
 
@@ -207,13 +207,13 @@ pub returns-in-Err-settle-clause-missed : goal.returns-in-Err-settle-clause-miss
 returns-in-Err-settle-clause-missed g c =
     let own = event_of c.args.change c.args.handle c.args.bytes.now in
     missed_on own c.args.seat.now c.change_by.new.seat c.settle.new.seat
-    (missed_denied g.B.Naming.sizes g.B.Naming.name g.B.Naming.whole own own c.deref_mut.result.now c.change_by.new.state c.args.seat.now c.change_by.new.seat c.in-Err.denied
+    (missed_denied g.B.Naming.files g.B.Naming.sizes g.B.Naming.name g.B.Naming.whole own own c.deref_mut.result.now c.change_by.new.state c.args.seat.now c.change_by.new.seat c.in-Err.denied
     (λ p r f. change_fills p c.args.change c.args.handle c.args.bytes.now r f) c.in-Err.ensures.denied)
     (missed_room own c.change_by.new.seat c.settle.new.seat c.settle.ensures.only)
 
 pub returns-in-Ok-settle-clause-again : goal.returns-in-Ok-settle-clause-again
 returns-in-Ok-settle-clause-again g c =
-    retries_denied g.B.Naming.sizes g.B.Naming.name g.B.Naming.whole (event_of c.args.change c.args.handle c.args.bytes.now) c.deref_mut.result.now c.change_by.new.state
+    retries_denied g.B.Naming.files g.B.Naming.sizes g.B.Naming.name g.B.Naming.whole (event_of c.args.change c.args.handle c.args.bytes.now) c.deref_mut.result.now c.change_by.new.state
     c.args.seat.now c.change_by.new.seat c.settle.new.seat c.in-Err.denied
     (change_noted c.args.change c.args.handle c.args.bytes.now) c.in-Ok-settle.ensures.passing c.in-Err.ensures.denied
     c.settle.ensures.goes
@@ -239,7 +239,7 @@ returns-in-Ok-fill-clause-first g c =
 
 pub returns-in-Ok-settle-clause-first : goal.returns-in-Ok-settle-clause-first
 returns-in-Ok-settle-clause-first g c =
-    first_settled g.B.Naming.sizes g.B.Naming.name g.B.Naming.whole (event_of c.args.change c.args.handle c.args.bytes.now) c.deref_mut.result.now c.change_by.new.state
+    first_settled g.B.Naming.files g.B.Naming.sizes g.B.Naming.name g.B.Naming.whole (event_of c.args.change c.args.handle c.args.bytes.now) c.deref_mut.result.now c.change_by.new.state
     c.args.seat.now c.change_by.new.seat c.settle.new.seat c.in-Err.denied
     (change_noted c.args.change c.args.handle c.args.bytes.now) (wants_pass c.in-Err.denied.refusal) c.settle.ensures.quiet
     c.in-Err.ensures.denied c.settle.ensures.goes
@@ -256,7 +256,7 @@ returns-in-Err-fill-clause-first g c =
 
 pub returns-in-Err-settle-clause-first : goal.returns-in-Err-settle-clause-first
 returns-in-Err-settle-clause-first g c =
-    first_settled g.B.Naming.sizes g.B.Naming.name g.B.Naming.whole (event_of c.args.change c.args.handle c.args.bytes.now) c.deref_mut.result.now c.change_by.new.state
+    first_settled g.B.Naming.files g.B.Naming.sizes g.B.Naming.name g.B.Naming.whole (event_of c.args.change c.args.handle c.args.bytes.now) c.deref_mut.result.now c.change_by.new.state
     c.args.seat.now c.change_by.new.seat c.settle.new.seat c.in-Err.denied
     (change_noted c.args.change c.args.handle c.args.bytes.now) (wants_pass c.in-Err.denied.refusal) c.settle.ensures.quiet
     c.in-Err.ensures.denied c.settle.ensures.goes

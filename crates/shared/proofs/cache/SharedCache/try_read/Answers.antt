@@ -26,13 +26,13 @@ returns-in-Bytes-clause-answer g c =
 
 pub returns-in-Err-fill-clause-denied : goal.returns-in-Err-fill-clause-denied
 returns-in-Err-fill-clause-denied g c =
-    call_help g.B.Naming.sizes g.B.Naming.name g.B.Naming.whole c.args.handle (event.Read c.args.handle c.args.offset (length c.args.out.now)) c.args.seat.now
+    call_help g.B.Naming.files g.B.Naming.sizes g.B.Naming.name g.B.Naming.whole c.args.handle (event.Read c.args.handle c.args.offset (length c.args.out.now)) c.args.seat.now
     c.read.new.seat c.fill.new.seat c.in-Err-fill.denied (goes_by _ _ _ _ _ _ _ c.in-Ok.ensures.made)
     c.in-Err-fill.ensures.denied
 
 pub returns-in-Err-clause-denied : goal.returns-in-Err-clause-denied
 returns-in-Err-clause-denied g c =
-    call_first g.B.Naming.sizes g.B.Naming.name g.B.Naming.whole c.args.handle (event.Read c.args.handle c.args.offset (length c.args.out.now)) c.deref_mut.result.now
+    call_first g.B.Naming.files g.B.Naming.sizes g.B.Naming.name g.B.Naming.whole c.args.handle (event.Read c.args.handle c.args.offset (length c.args.out.now)) c.deref_mut.result.now
     c.read.new.self c.args.seat.now c.read.new.seat c.in-Err.denied c.in-Err.ensures.denied
 
 pub returns-in-Wait-clause-again : goal.returns-in-Wait-clause-again
@@ -56,7 +56,7 @@ returns-in-Bytes-clause-within g c small =
     let counted : c.in-Bytes.count ≤ length c.args.out.now =
     subst (λ (x : ReadAnswer). bytes_read (Ok x) ≤ length c.args.out.now) c.in-Bytes.is c.in-Ok.ensures.count in
     let as_long = c.read.auto.out in
-    read_counted c.args.handle c.args.offset (length c.args.out.now) c.in-Bytes.count c.read.new.out
+    read_counted g.B.Naming.files c.args.handle c.args.offset (length c.args.out.now) c.in-Bytes.count c.read.new.out
     c.deref_mut.result.now c.read.new.self c.args.seat.now c.read.new.seat c.in-Ok.made.1 (omega arith)
     (subst (λ (s : HeldSeen). After s.core.state.sizes s.core.state.name s.log.history s.core.state)
     (c.deref.ensures ∙ sym c.deref_mut.ensures.value) c.core.ensures.legal)
@@ -85,21 +85,21 @@ returns-in-Bytes-clause-once g c = once_by _ _ _ _ _ _ _ _ c.in-Ok.ensures.made
 
 pub returns-in-Err-clause-only : goal.returns-in-Err-clause-only
 returns-in-Err-clause-only g c =
-    only_try_denied g.B.Naming.sizes g.B.Naming.name g.B.Naming.whole c.args.handle (event.Read c.args.handle c.args.offset (length c.args.out.now)) c.deref_mut.result.now
+    only_try_denied g.B.Naming.files g.B.Naming.sizes g.B.Naming.name g.B.Naming.whole c.args.handle (event.Read c.args.handle c.args.offset (length c.args.out.now)) c.deref_mut.result.now
     c.read.new.self c.args.seat.now c.read.new.seat c.in-Err.denied c.in-Err.ensures.denied tt
 
 -- a read wants no room
 pub returns-in-Err-clause-lost : goal.returns-in-Err-clause-lost
 returns-in-Err-clause-lost g c =
-    lost_unwanted g.B.Naming.sizes g.B.Naming.name c.read.new.seat c.in-Err.denied
-    (read_unwanted g.B.Naming.sizes g.B.Naming.name g.B.Naming.whole c.args.handle c.args.offset (length c.args.out.now) c.deref_mut.result.now c.read.new.self c.args.seat.now
+    lost_unwanted g.B.Naming.files g.B.Naming.sizes g.B.Naming.name c.read.new.seat c.in-Err.denied
+    (read_unwanted g.B.Naming.files g.B.Naming.sizes g.B.Naming.name g.B.Naming.whole c.args.handle c.args.offset (length c.args.out.now) c.deref_mut.result.now c.read.new.self c.args.seat.now
     c.read.new.seat c.in-Err.denied c.in-Err.ensures.denied)
 
 -- memory is asked for after the page was missing
 pub returns-in-Err-clause-wanting : goal.returns-in-Err-clause-wanting
 returns-in-Err-clause-wanting g c =
     let own = event.Read c.args.handle c.args.offset (length c.args.out.now) in
-    short_denied g.B.Naming.sizes g.B.Naming.name g.B.Naming.whole own own c.deref_mut.result.now c.read.new.self c.args.seat.now c.read.new.seat c.args.seat.now c.read.new.seat
+    short_denied g.B.Naming.files g.B.Naming.sizes g.B.Naming.name g.B.Naming.whole own own c.deref_mut.result.now c.read.new.self c.args.seat.now c.read.new.seat c.args.seat.now c.read.new.seat
     c.in-Err.denied c.in-Err.ensures.denied
 
 pub returns-in-Err-fill-clause-wanting : goal.returns-in-Err-fill-clause-wanting
@@ -113,7 +113,7 @@ returns-in-Err-fill-clause-wanting g c =
 -- a read begins no request, and fills no page by itself
 pub returns-in-Err-clause-settled : goal.returns-in-Err-clause-settled
 returns-in-Err-clause-settled g c =
-    (settles_denied g.B.Naming.sizes g.B.Naming.whole g.B.Naming.name (event.Read c.args.handle c.args.offset (length c.args.out.now)) c.deref_mut.result.now
+    (settles_denied g.B.Naming.files g.B.Naming.sizes g.B.Naming.whole g.B.Naming.name (event.Read c.args.handle c.args.offset (length c.args.out.now)) c.deref_mut.result.now
     c.read.new.self c.args.seat.now c.read.new.seat c.in-Err.denied (λ is. is) c.in-Err.ensures.denied)
 
 pub returns-in-Bytes-clause-settled : goal.returns-in-Bytes-clause-settled
@@ -137,7 +137,7 @@ returns-in-Err-fill-clause-settled g c =
 pub returns-in-Err-clause-missed : goal.returns-in-Err-clause-missed
 returns-in-Err-clause-missed g c =
     let own = event.Read c.args.handle c.args.offset (length c.args.out.now) in
-    missed_denied g.B.Naming.sizes g.B.Naming.name g.B.Naming.whole own own c.deref_mut.result.now c.read.new.self c.args.seat.now c.read.new.seat c.in-Err.denied
+    missed_denied g.B.Naming.files g.B.Naming.sizes g.B.Naming.name g.B.Naming.whole own own c.deref_mut.result.now c.read.new.self c.args.seat.now c.read.new.seat c.in-Err.denied
     (λ p r f. f) c.in-Err.ensures.denied
 
 pub returns-in-Bytes-clause-missed : goal.returns-in-Bytes-clause-missed
@@ -165,7 +165,7 @@ returns-in-Err-fill-clause-missed g c =
 -- its own event came first
 pub returns-in-Err-clause-first : goal.returns-in-Err-clause-first
 returns-in-Err-clause-first g c =
-    first_denied g.B.Naming.sizes g.B.Naming.name g.B.Naming.whole (event.Read c.args.handle c.args.offset (length c.args.out.now)) c.deref_mut.result.now c.read.new.self
+    first_denied g.B.Naming.files g.B.Naming.sizes g.B.Naming.name g.B.Naming.whole (event.Read c.args.handle c.args.offset (length c.args.out.now)) c.deref_mut.result.now c.read.new.self
     c.args.seat.now c.read.new.seat c.in-Err.denied (λ r. refl) c.in-Err.ensures.denied
 
 pub returns-in-Bytes-clause-first : goal.returns-in-Bytes-clause-first

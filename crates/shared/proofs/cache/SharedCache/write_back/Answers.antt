@@ -30,11 +30,11 @@ turns-preserved g c = record {
   popped = c.flusher_turn-turn.ensures.popped ∙ c.turns.invariant.popped;
   alone = c.flusher_turn-turn.ensures.alone ∙ c.turns.invariant.alone;
   puts = puts_on c.args.worker.now c.turns.worker c.flusher_turn-turn.new.worker c.turns.invariant.puts
-      (turn_puts g.B.Naming.sizes g.B.Naming.name c.turns.worker c.flusher_turn-turn.new.worker c.flusher_turn-turn.result
+      (turn_puts g.B.Naming.files g.B.Naming.sizes g.B.Naming.name c.turns.worker c.flusher_turn-turn.new.worker c.flusher_turn-turn.result
       c.flusher_turn-turn.ensures.done c.flusher_turn-turn.ensures.unbegun);
   carried = carried_on c.args.worker.now c.turns.worker c.flusher_turn-turn.new.worker c.turns.invariant.goes
       c.flusher_turn-turn.ensures.goes c.turns.invariant.puts
-      (turn_puts g.B.Naming.sizes g.B.Naming.name c.turns.worker c.flusher_turn-turn.new.worker c.flusher_turn-turn.result
+      (turn_puts g.B.Naming.files g.B.Naming.sizes g.B.Naming.name c.turns.worker c.flusher_turn-turn.new.worker c.flusher_turn-turn.result
       c.flusher_turn-turn.ensures.done c.flusher_turn-turn.ensures.unbegun)
       c.turns.invariant.carried c.flusher_turn-turn.ensures.carried;
 }
@@ -51,11 +51,11 @@ turns-preserved-after-is_idle g c = record {
   popped = c.flusher_turn-turn.ensures.popped ∙ c.turns.invariant.popped;
   alone = c.flusher_turn-turn.ensures.alone ∙ c.turns.invariant.alone;
   puts = puts_on c.args.worker.now c.turns.worker c.flusher_turn-turn.new.worker c.turns.invariant.puts
-      (turn_puts g.B.Naming.sizes g.B.Naming.name c.turns.worker c.flusher_turn-turn.new.worker c.flusher_turn-turn.result
+      (turn_puts g.B.Naming.files g.B.Naming.sizes g.B.Naming.name c.turns.worker c.flusher_turn-turn.new.worker c.flusher_turn-turn.result
       c.flusher_turn-turn.ensures.done c.flusher_turn-turn.ensures.unbegun);
   carried = carried_on c.args.worker.now c.turns.worker c.flusher_turn-turn.new.worker c.turns.invariant.goes
       c.flusher_turn-turn.ensures.goes c.turns.invariant.puts
-      (turn_puts g.B.Naming.sizes g.B.Naming.name c.turns.worker c.flusher_turn-turn.new.worker c.flusher_turn-turn.result
+      (turn_puts g.B.Naming.files g.B.Naming.sizes g.B.Naming.name c.turns.worker c.flusher_turn-turn.new.worker c.flusher_turn-turn.result
       c.flusher_turn-turn.ensures.done c.flusher_turn-turn.ensures.unbegun)
       c.turns.invariant.carried c.flusher_turn-turn.ensures.carried;
 }
@@ -72,11 +72,11 @@ turns-preserved-after-is_idle-2 g c = record {
   popped = c.flusher_turn-turn.ensures.popped ∙ c.turns.invariant.popped;
   alone = c.flusher_turn-turn.ensures.alone ∙ c.turns.invariant.alone;
   puts = puts_on c.args.worker.now c.turns.worker c.flusher_turn-turn.new.worker c.turns.invariant.puts
-      (turn_puts g.B.Naming.sizes g.B.Naming.name c.turns.worker c.flusher_turn-turn.new.worker c.flusher_turn-turn.result
+      (turn_puts g.B.Naming.files g.B.Naming.sizes g.B.Naming.name c.turns.worker c.flusher_turn-turn.new.worker c.flusher_turn-turn.result
       c.flusher_turn-turn.ensures.done c.flusher_turn-turn.ensures.unbegun);
   carried = carried_on c.args.worker.now c.turns.worker c.flusher_turn-turn.new.worker c.turns.invariant.goes
       c.flusher_turn-turn.ensures.goes c.turns.invariant.puts
-      (turn_puts g.B.Naming.sizes g.B.Naming.name c.turns.worker c.flusher_turn-turn.new.worker c.flusher_turn-turn.result
+      (turn_puts g.B.Naming.files g.B.Naming.sizes g.B.Naming.name c.turns.worker c.flusher_turn-turn.new.worker c.flusher_turn-turn.result
       c.flusher_turn-turn.ensures.done c.flusher_turn-turn.ensures.unbegun)
       c.turns.invariant.carried c.flusher_turn-turn.ensures.carried;
 }
@@ -93,11 +93,11 @@ turns-preserved-after-is_idle-3 g c = record {
   popped = c.flusher_turn-turn.ensures.popped ∙ c.turns.invariant.popped;
   alone = c.flusher_turn-turn.ensures.alone ∙ c.turns.invariant.alone;
   puts = puts_on c.args.worker.now c.turns.worker c.flusher_turn-turn.new.worker c.turns.invariant.puts
-      (turn_puts g.B.Naming.sizes g.B.Naming.name c.turns.worker c.flusher_turn-turn.new.worker c.flusher_turn-turn.result
+      (turn_puts g.B.Naming.files g.B.Naming.sizes g.B.Naming.name c.turns.worker c.flusher_turn-turn.new.worker c.flusher_turn-turn.result
       c.flusher_turn-turn.ensures.done c.flusher_turn-turn.ensures.unbegun);
   carried = carried_on c.args.worker.now c.turns.worker c.flusher_turn-turn.new.worker c.turns.invariant.goes
       c.flusher_turn-turn.ensures.goes c.turns.invariant.puts
-      (turn_puts g.B.Naming.sizes g.B.Naming.name c.turns.worker c.flusher_turn-turn.new.worker c.flusher_turn-turn.result
+      (turn_puts g.B.Naming.files g.B.Naming.sizes g.B.Naming.name c.turns.worker c.flusher_turn-turn.new.worker c.flusher_turn-turn.result
       c.flusher_turn-turn.ensures.done c.flusher_turn-turn.ensures.unbegun)
       c.turns.invariant.carried c.flusher_turn-turn.ensures.carried;
 }

@@ -2,21 +2,15 @@ use Rattle.std.proofs.Common.{rules, ◌≡◌, ◌+◌, refl, sym, subst, arith
 use Rattle.runs.specs.Plain.{Plain, no_files}
 use Rattle.trail.specs.Replay.{plain_of, ReplaysFrom}
 use Rattle.trail.proofs.ReplayLaws.{fronts_on, is_first_odd, fronts_all}
-use Rattle.trail.proofs.replay.first_odd.Goals as goal
+use Rattle.trail.proofs.replay.odd_from.Goals as goal
 
 pub loop-place-init : goal.loop-place-init
-loop-place-init c =
-    let none : plain_of c.new-plain.result ≡ no_files =
-    λ i. record { files = c.new-plain.ensures.files i; handles = c.new-plain.ensures.handles i } in
-    λ n l. (
-      λ x. subst (λ (p : Plain). ReplaysFrom p (take n c.args.trail.now.entries)) none x,
-      λ x. subst (λ (p : Plain). ReplaysFrom p (take n c.args.trail.now.entries)) (sym none) x,
-    )
+loop-place-init c = λ n l. (λ x. x, λ x. x)
 
 pub returns-then-not-branch-clause-odd : goal.returns-then-not-branch-clause-odd
 returns-then-not-branch-clause-odd c =
     let no : c.in_ok-replay.field-0 ≡ false = search rules in
-    is_first_odd c.args.trail.now.entries c.loop-place.place c.line.result.0.now c.line.result.1.now
+    is_first_odd (plain_of c.args.plain) c.args.trail.now.entries c.loop-place.place c.line.result.0.now c.line.result.1.now
     c.line.result.2.now c.line.ensures (plain_of c.loop-place.plain) c.loop-place.invariant c.in_ok-replay.field-0
     (plain_of c.replay.new.self) no c.in_ok-replay.ensures.answered
     (let a = c.loop-place-test.true in let b = c.lines.ensures in omega arith)
@@ -27,11 +21,11 @@ loop-place-smaller c = let a = c.loop-place-test.true in let b = c.lines.ensures
 pub loop-place-preserved : goal.loop-place-preserved
 loop-place-preserved c =
     let yes : c.in_ok-replay.field-0 ≡ true = search rules in
-    fronts_on c.args.trail.now.entries c.loop-place.place c.line.result.0.now c.line.result.1.now c.line.result.2.now
+    fronts_on (plain_of c.args.plain) c.args.trail.now.entries c.loop-place.place c.line.result.0.now c.line.result.1.now c.line.result.2.now
     c.line.ensures (plain_of c.loop-place.plain) c.loop-place.invariant c.in_ok-replay.field-0
     (plain_of c.replay.new.self) yes c.in_ok-replay.ensures.answered
 
 pub returns-clause-none : goal.returns-clause-none
 returns-clause-none c =
-    fronts_all c.args.trail.now.entries c.loop-place.place (plain_of c.loop-place.plain) c.loop-place.invariant
+    fronts_all (plain_of c.args.plain) c.args.trail.now.entries c.loop-place.place (plain_of c.loop-place.plain) c.loop-place.invariant
     (let a = c.loop-place-test.false in let b = c.lines.ensures in omega arith)
