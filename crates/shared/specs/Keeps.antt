@@ -1,5 +1,5 @@
 -- What holds of the device under its lock, and of the device at the end.
-use Rattle.std.specs.Prelude.{◌≡◌, ◌≢◌, ◌<◌, ℕ, Bool, Err, List, Ok, Result, Some, length, slice_get}
+use Rattle.std.specs.Prelude.{◌≡◌, ◌≢◌, ◌<◌, ℕ, Bool, Err, List, Ok, Result, Some, length, map as map_list, slice_get}
 use Rattle.std.specs.FinMap as map
 use Rattle.blockdev.specs.Device.{Outcome, Told}
 use Rattle.deeds.specs.Shown.{AreTold}
@@ -13,6 +13,10 @@ use Rattle.trail.specs.declared.entry.Entry.{Entry}
 -- it has blocks of a page, as many as the cache
 abbrev pub IsDisk : Sizes → Told → Type 0
 IsDisk sizes device = (device.size ≡ sizes.page) × (device.count ≡ sizes.blocks)
+
+-- the catalog of a cache that has made no event yet
+abbrev pub begun_with : State → Catalog
+begun_with s = record { sizes = map_list (λ file. file.size) s.files; spots = s.spots }
 
 -- how a call went, whatever it gives
 abbrev pub answer_of : {A : Type 0} → Result A ℕ → Outcome

@@ -4,8 +4,8 @@
 //! `cache` has the cache, `parts` makes what it is made of, and `close` takes it apart. `handle` is an open file, `files` has the calls
 //! on files and handles, `reads`, `writes` and `seek` those on bytes and the cursor, `fsync` syncs, `room` has what these do on the way, and `waits`
 //! what they wait for. `worker` is who works beside the callers: `turns` has what one does in a turn, `workers` its loop, `evictor` the one that frees
-//! frames, `ends` the end of a job, and `signal` what wakes one. `facts` is what the cache tells of itself, and `disk` the device under
-//! its lock.
+//! frames, `ends` the end of a job, and `signal` what wakes one. `facts` is what the cache tells of itself, `standing`
+//! where its files stand on the device, and `disk` the device under its lock.
 //!
 //! Floor: services.
 
@@ -25,6 +25,7 @@ mod reads;
 mod room;
 mod seek;
 mod signal;
+mod standing;
 pub mod turns;
 mod waits;
 pub mod worker;

@@ -11,7 +11,7 @@ ghost use Rattle.catalog.specs.Cataloged as cataloged;
 ghost use Rattle.machine.specs.Catalogs.{IsCatalog, adopted, no_catalog};
 ghost use Rattle.machine.specs.PageLists.{no_lists};
 ghost use Rattle.held.specs.Keeps.{IsLocked};
-ghost use Rattle.shared.specs.Keeps.{AreBlocksOf, IsDisk};
+ghost use Rattle.shared.specs.Keeps.{AreBlocksOf, IsDisk, begun_with};
 ghost use Rattle.shared.specs.Workers.{IsWorkerOf, is_alone, popped_by, pushed_by, seat_of};
 
 use crate::cache::Parts;
@@ -39,7 +39,7 @@ pub struct Unmade<D, T> {
 impl<D: BlockDevice, T: Trail> Parts<D, T> {
     /// The parts of a cache of this name over the device, without files, and so many seats. A program that starts threads gives them to
     /// a function of its own, at `Brand`, which makes the cache by `SharedCache::of`.
-    #[tactic(auto, using(crate::proofs::Serving::idle_first, crate::proofs::Serving::none_is))]
+    #[tactic(auto, using(crate::proofs::Serving::idle_first))]
     pub fn make<R: Wait>(
         rt: &R,
         alloc: Global,
@@ -55,7 +55,7 @@ impl<D: BlockDevice, T: Trail> Parts<D, T> {
         ensures state { IfOk result (λ r. IsLocked r.0.name r.0.held.log.table r.0.board r.0.geometry (vec_len r.1 + 1) r.0.held.log.room r.0.held) }
         ensures room { IfOk result (λ r. r.0.held.log.room ≡ T.whole trail) }
         ensures empty { IfOk result (λ r. (r.0.held.log.history ≡ []) × (r.0.held.core ≡ record { state = adopted geometry.now name no_catalog; lists = no_lists })) }
-        ensures catalog { IsCatalog geometry.now no_catalog }
+        ensures begun { IfOk result (λ r. (r.0.held.core.state ≡ adopted r.0.geometry r.0.name (begun_with r.0.held.core.state)) × IsCatalog r.0.geometry (begun_with r.0.held.core.state)) }
         ensures idle { IfOk result (λ r. map.len r.0.held.core.state.requests ≡ 0) }
         ensures own { IfOk result (λ r. IsWorkerOf r.0.ring r.0.name r.0.held.log.table r.0.deeds.table r.0.geometry r.0.own) }
         ensures first { IfOk result (λ r. (is_alone r.0.own ≡ true) × (popped_by r.0.own ≡ []) × (pushed_by r.0.own ≡ [])) }
@@ -129,7 +129,8 @@ impl<D: BlockDevice, T: Trail> Parts<D, T> {
         ensures state { IfOk result (λ r. IsLocked r.0.name r.0.held.log.table r.0.board r.0.geometry (vec_len r.1 + 1) r.0.held.log.room r.0.held) }
         ensures room { IfOk result (λ r. r.0.held.log.room ≡ T.whole trail) }
         ensures adopted { IfOk result (λ r. (r.0.held.log.history ≡ []) × (r.0.held.core ≡ record { state = adopted geometry.now name catalog.files; lists = no_lists })) }
-        ensures catalog { IfOk result (λ _. IsCatalog geometry.now catalog.files) }
+        ensures catalog { IfOk result (λ r. IsCatalog geometry.now catalog.files × (begun_with r.0.held.core.state ≡ catalog.files)) }
+        ensures begun { IfOk result (λ r. (r.0.held.core.state ≡ adopted r.0.geometry r.0.name (begun_with r.0.held.core.state)) × IsCatalog r.0.geometry (begun_with r.0.held.core.state)) }
         ensures idle { IfOk result (λ r. map.len r.0.held.core.state.requests ≡ 0) }
         ensures own { IfOk result (λ r. IsWorkerOf r.0.ring r.0.name r.0.held.log.table r.0.deeds.table r.0.geometry r.0.own) }
         ensures first { IfOk result (λ r. (is_alone r.0.own ≡ true) × (popped_by r.0.own ≡ []) × (pushed_by r.0.own ≡ [])) }

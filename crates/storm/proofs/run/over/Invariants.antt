@@ -1,4 +1,4 @@
-use Rattle.machine.specs.Catalogs.{no_catalog}
+use Rattle.shared.specs.Keeps.{begun_with}
 use Rattle.std.specs.Prelude.{◌+◌, vec_len}
 use Rattle.storm.proofs.run.over.Given as goal
 
@@ -9,7 +9,7 @@ ghosts-history-B-Naming g a = record {
   table = a.parts.held.log.table;
   board = a.parts.board;
   sizes = a.parts.geometry;
-  files = no_catalog;
+  files = begun_with a.parts.held.core.state;
   seats = vec_len a.seats + 1;
   whole = a.parts.held.log.room;
   blocks = a.parts.deeds.blocks;
