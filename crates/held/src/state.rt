@@ -132,6 +132,7 @@ impl<T: Trail> Opened<T> {
 }
 
 /// What stands beside the core but for the trail: all that memory is taken for.
+#[derive(Drop)]
 struct Beside {
     board: Board,
     recorder: Recorder,

@@ -16,15 +16,17 @@ use Rattle.shared.specs.Keeps.{IsDisk, begun_with}
 pub first_over : (files : Catalog) (sizes : Sizes) (name : ℕ) (blocks : List (List ℕ)) (device : Told) → IsCatalog sizes files → 0 < sizes.page → IsDisk sizes device
     → IsSized device → device.contents ≡ Some blocks → MayBegin files sizes name blocks
 first_over files sizes name blocks device ok page disk sized told =
-    let s = subst (λ o. IfSome o (λ bs. (length bs ≡ device.count) × All (λ bytes. length bytes ≡ device.size) bs)) told sized in
-    (ok, record {
-      page_size = page;
-      core = refl;
-      outcomes = refl;
-      writing = refl;
-      blocks = s.0 ∙ disk.1;
-      block_sizes = subst (λ n. All (λ bytes. length bytes ≡ n) blocks) disk.0 s.1;
-    })
+    let s = subst (λ o. IfSome o (λ bs. (length bs ≡ device.count) × All (λ bytes. length bytes ≡ device.size) bs)) told sized in (
+      ok,
+      record {
+        page_size = page;
+        core = refl;
+        outcomes = refl;
+        writing = refl;
+        blocks = s.0 ∙ disk.1;
+        block_sizes = subst (λ n. All (λ bytes. length bytes ≡ n) blocks) disk.0 s.1;
+      },
+    )
 
 -- nothing is in flight
 pub idle_first : (core : Core) (files : Catalog) (sizes : Sizes) (name : ℕ) → core ≡ record { state = adopted sizes name files; lists = no_lists }

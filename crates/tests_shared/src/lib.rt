@@ -8,6 +8,8 @@ mod history_rows;
 #[cfg(test)]
 mod long_rows;
 #[cfg(test)]
+mod restart_rows;
+#[cfg(test)]
 mod rows;
 #[cfg(test)]
 mod space_rows;

@@ -74,11 +74,7 @@ pub fn first_odd_over(
     odd_from(alloc, PlainFiles::over(alloc, files)?, trail)
 }
 
-fn odd_from(
-    alloc: Global,
-    mut plain: PlainFiles,
-    trail: &FullTrail,
-) -> Result<Option<u64>, Refusal>
+fn odd_from(alloc: Global, mut plain: PlainFiles, trail: &FullTrail) -> Result<Option<u64>, Refusal>
     ensures odd { IfOk result (λ o. IfSome o (IsFirstOddFrom (plain_of plain) trail.now.entries)) }
     ensures none { IfOk result (λ o. IfNone o (ReplaysFrom (plain_of plain) trail.now.entries)) }
     ensures refused { IsOkUnless result Refusal.Memory }
