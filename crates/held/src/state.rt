@@ -85,6 +85,9 @@ impl<T: Trail> Opened<T> {
         ensures seats { IfOk result (λ r. (vec_len r.2 ≡ seats) × AreFresh r.0.log.table name r.2.items) }
         ensures own { IfOk result (λ r. IsFresh r.0.log.table name r.3 seats) }
     {
+        if seats == 0 || seats > MAX_SEATS {
+            return Err((Refusal::BadConfig, trail));
+        }
         let beside = match Beside::new(alloc, name, seats) {
             Ok(beside) => beside,
             Err(refusal) => return Err((refusal, trail)),
