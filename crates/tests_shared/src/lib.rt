@@ -4,6 +4,8 @@
 //! Floor: outside.
 
 #[cfg(test)]
+mod era_rows;
+#[cfg(test)]
 mod history_rows;
 #[cfg(test)]
 mod long_rows;
