@@ -27,6 +27,8 @@ pub struct Log {
     pub stage: u8,
     /// No other pass was made of it: it pushed and popped all that ever was.
     pub alone: bool,
+    /// How many passes were made of it.
+    pub made: u64,
     /// The name of the cache whose jobs are in the parcels.
     pub cache: u64,
     /// Blocks of its device.

@@ -1,5 +1,5 @@
 -- The parcels that a pass pushed and popped, as their jobs.
-use Rattle.std.proofs.Common.{◌≡◌, List, [], ◌∷◌, ◌++◌, map, ap, sym, ◌∙◌}
+use Rattle.std.proofs.Common.{◌≡◌, ℕ, Bool, List, [], ◌∷◌, ◌++◌, map, ap, sym, ◌∙◌}
 use Rattle.std.proofs.lemmas.List.{map-append}
 use Rattle.blockdev.specs.Jobs.{Task}
 use Rattle.deeds.specs.Shown.{ParcelSeen}
@@ -27,3 +27,13 @@ same_popped v w p on = ap (λ (x : Log). map job_of x.popped) on
 pub same_pushed : (v w : Log) (p : ParcelSeen) → w ≡ with_popped v p
     → map (λ (q : ParcelSeen). q.task) w.pushed ≡ map (λ (q : ParcelSeen). q.task) v.pushed
 same_pushed v w p on = ap (λ (x : Log). map job_of x.pushed) on
+
+-- no step but the making of a pass changes what passes there are
+pub beside_same : (v w : Log) → w ≡ v → (w.alone, w.made) ≡ (v.alone, v.made)
+beside_same v w on = ap (λ (x : Log). (x.alone, x.made)) on
+
+pub beside_pushed : (v w : Log) (p : ParcelSeen) → w ≡ with_pushed v p → (w.alone, w.made) ≡ (v.alone, v.made)
+beside_pushed v w p on = ap (λ (x : Log). (x.alone, x.made)) on
+
+pub beside_popped : (v w : Log) (p : ParcelSeen) → w ≡ with_popped v p → (w.alone, w.made) ≡ (v.alone, v.made)
+beside_popped v w p on = ap (λ (x : Log). (x.alone, x.made)) on

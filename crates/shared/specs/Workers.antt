@@ -73,9 +73,12 @@ popped_by w = popped_in w.pass
 abbrev pub pushed_by : Worker → List Task
 pushed_by w = pushed_in w.pass
 
--- whether no other pass of the ring was made from it
-abbrev pub is_alone : Worker → Bool
-is_alone w = (view w.pass).alone
+-- whether the pass is the only one that the ring ever had, and how many were made of it
+abbrev pub company_in : Pass ParcelSeen Log → Bool × ℕ
+company_in pass = ((view pass).alone, (view pass).made)
+
+abbrev pub company_of : Worker → Bool × ℕ
+company_of w = company_in w.pass
 
 -- the event is the end of this job's request
 abbrev pub IsEndOf : Task → Event → Type 0
@@ -228,7 +231,7 @@ pub record Drained (own : Worker) (history : List Entry) (state : State) : Type 
   pub over : AllOver own at state
   pub only : Only (λ e. IsEnd e.event) own.seat at.seat
   pub pushed : pushed_by at ≡ pushed_by own
-  pub alone : is_alone at ≡ is_alone own
+  pub alone : company_of at ≡ company_of own
   pub emptied : Held 0 (Stands (view at.pass))
   pub seen : IsPrefix at.seat.list history
   pub counted : at.seat.count ≡ count_of at.seat.number history

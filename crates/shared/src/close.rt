@@ -13,7 +13,7 @@ ghost use Rattle.trail.specs.History.{After};
 ghost use Rattle.trail.specs.declared.entry.Entry.{Entry};
 ghost use Rattle.held.specs.Called.{Goes, Only};
 ghost use Rattle.shared.specs.Keeps.{IsDisk, IsLeftBy};
-ghost use Rattle.shared.specs.Workers.{AllEnded, AllOver, Drained, Ends, IsEnd, IsEndOf, IsOver, IsWorkerOf, is_alone, pushed_by, seat_of};
+ghost use Rattle.shared.specs.Workers.{AllEnded, AllOver, Drained, Ends, IsEnd, IsEndOf, IsOver, IsWorkerOf, company_of, pushed_by, seat_of};
 
 use crate::brief::BriefLock;
 use crate::cache::SharedCache;
@@ -48,7 +48,7 @@ impl<B: Naming, D: BlockDevice, T: Trail> SharedCache<B, D, T> {
         ensures err { IfErr result (λ e. (e.0 ≡ Stranger) × (e.1.name ≡ self.name) × (e.1.ring ≡ self.ring) × (e.3 ≡ seats)) }
         ensures again { IfErr result (λ e. IsWorkerOf self.ring B.name B.table B.deeds B.sizes e.2 × Goes (seat_of own) (seat_of e.2)) }
         ensures only { IfErr result (λ e. Only (λ x. IsEnd x.event) (seat_of own) (seat_of e.2)) }
-        ensures ended { IfErr result (λ e. AllEnded own e.2 × (pushed_by e.2 ≡ pushed_by own) × (is_alone e.2 ≡ is_alone own)) }
+        ensures ended { IfErr result (λ e. AllEnded own e.2 × (pushed_by e.2 ≡ pushed_by own) × (company_of e.2 ≡ company_of own)) }
         ensures device { IfOk result (λ r. IsDisk B.sizes (D.told r.2)) }
         ensures core { IfOk result (λ r. (r.1.state.name ≡ self.name) × (r.1.state.sizes ≡ B.sizes)) }
         ensures closed { IfOk result (λ r. (history : List Entry) × T.records r.0 history × (T.cache r.0 ≡ Some self.name) × After B.files r.1.state.sizes r.1.state.name history r.1.state × Drained own history r.1.state × All (λ s. IsPrefix s.list history × (s.count ≡ count_of s.number history)) seats.items × (B.told ≡ true → IsLeftBy B.files B.sizes B.name B.blocks history r.1.state (D.told r.2))) }
@@ -113,7 +113,7 @@ fn drain<B: Naming, D: BlockDevice, T: Trail, R: Wait>(
     ensures only { Only (λ e. IsEnd e.event) (seat_of own.old) (seat_of own.new) }
     ensures ended { AllEnded own.old own.new }
     ensures over { AllOver own.old own.new state.new.core.state }
-    ensures same { (pushed_by own.new ≡ pushed_by own.old) × (is_alone own.new ≡ is_alone own.old) }
+    ensures same { (pushed_by own.new ≡ pushed_by own.old) × (company_of own.new ≡ company_of own.old) }
     ensures emptied { fifo.Held 0 (Stands (view own.new.pass)) }
 {
     'jobs: for _ in rt.forever() {

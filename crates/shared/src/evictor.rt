@@ -5,7 +5,7 @@ ghost use Rattle.std.specs.Prelude.{◌≡◌, ℕ, IfErr, IfOk, min};
 ghost use Rattle.held.specs.Called.{Goes, Only};
 ghost use Rattle.shared.specs.Denials.{IsFullFor};
 ghost use Rattle.shared.specs.Own.{IsEviction};
-ghost use Rattle.shared.specs.Workers.{FindsEnough, IsWorkerOf, LetsGo, is_alone, popped_by, pushed_by, seat_of};
+ghost use Rattle.shared.specs.Workers.{FindsEnough, IsWorkerOf, LetsGo, company_of, popped_by, pushed_by, seat_of};
 
 use crate::cache::SharedCache;
 use crate::worker::Worker;
@@ -37,7 +37,7 @@ impl<B: Naming, D: BlockDevice, T: Trail> SharedCache<B, D, T> {
         ensures gone { IfOk result (λ n. (pages : ℕ) × LetsGo pages (seat_of worker.old) (seat_of worker.new) × (n ≡ min pages u64.MAX)) }
         ensures enough { IfOk result (λ _. FindsEnough 16 B.files B.sizes B.name (seat_of worker.new)) }
         ensures ring { (popped_by worker.new ≡ popped_by worker.old) × (pushed_by worker.new ≡ pushed_by worker.old) }
-        ensures alone { is_alone worker.new ≡ is_alone worker.old }
+        ensures alone { company_of worker.new ≡ company_of worker.old }
         ensures denied { IfErr result (IsFullFor B.files B.sizes B.name B.whole IsEviction (seat_of worker.old) (seat_of worker.new)) }
     {
         let mut gone = 0u64;
@@ -80,7 +80,7 @@ impl<B: Naming, D: BlockDevice, T: Trail> SharedCache<B, D, T> {
         ensures goes { Goes (seat_of worker.old) (seat_of worker.new) }
         ensures only { Only (λ e. IsEviction e.event) (seat_of worker.old) (seat_of worker.new) }
         ensures ring { (popped_by worker.new ≡ popped_by worker.old) × (pushed_by worker.new ≡ pushed_by worker.old) }
-        ensures alone { is_alone worker.new ≡ is_alone worker.old }
+        ensures alone { company_of worker.new ≡ company_of worker.old }
     {
         'turns: for _ in rt.forever() {
             let seen = self.work.count();

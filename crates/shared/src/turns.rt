@@ -8,7 +8,7 @@ ghost use Rattle.held.specs.Called.{Goes, Only};
 ghost use Rattle.ring.specs.Order.{Stands};
 ghost use Rattle.shared.specs.Denials.{IsDenied, MadeOne};
 ghost use Rattle.shared.specs.Settled.{EndsOwn, IsBegun, IsEnded};
-ghost use Rattle.shared.specs.Workers.{AllCarried, Begins, Ends, FailsOf, FailsOwn, FindsNothing, IsEnd, IsEndOf, IsFlushBegin, IsFlushed, IsOfRequest, IsOwnFailure, IsWorkerOf, IsWriteBack, OnBegun, entered_in, is_alone, popped_by, pushed_by, seat_of};
+ghost use Rattle.shared.specs.Workers.{AllCarried, Begins, Ends, FailsOf, FailsOwn, FindsNothing, IsEnd, IsEndOf, IsFlushBegin, IsFlushed, IsOfRequest, IsOwnFailure, IsWorkerOf, IsWriteBack, OnBegun, entered_in, company_of, popped_by, pushed_by, seat_of};
 
 use crate::cache::SharedCache;
 use crate::ends::{Done, carry_through};
@@ -44,7 +44,7 @@ impl<B: Naming, D: BlockDevice, T: Trail> SharedCache<B, D, T> {
         ensures goes { Goes (seat_of worker.old) (seat_of worker.new) }
         ensures only { Only (λ e. IsEnd e.event) (seat_of worker.old) (seat_of worker.new) }
         ensures pushed { pushed_by worker.new ≡ pushed_by worker.old }
-        ensures alone { is_alone worker.new ≡ is_alone worker.old }
+        ensures alone { company_of worker.new ≡ company_of worker.old }
         ensures idle { IfNone result ((seat_of worker.new ≡ seat_of worker.old) × (popped_by worker.new ≡ popped_by worker.old)) }
         ensures emptied { IfNone result (fifo.Held 0 (Stands (view worker.new.pass))) }
         ensures ended { IfSome result (λ d. (job : Task) × (popped_by worker.new ≡ popped_by worker.old ++ job ∷ []) × (d.serial.0 ≡ job.serial) × Ends job (seat_of worker.old) (seat_of worker.new) d.slip (is_some d.failed) × IfSome d.failed (IsOwnFailure self.now.name B.board)) }
@@ -73,7 +73,7 @@ impl<B: Naming, D: BlockDevice, T: Trail> SharedCache<B, D, T> {
         ensures only { Only (λ e. IsWriteBack e.event) (seat_of worker.old) (seat_of worker.new) }
         ensures own { EndsOwn B.name (seat_of worker.old) (seat_of worker.new) }
         ensures popped { popped_by worker.new ≡ popped_by worker.old }
-        ensures alone { is_alone worker.new ≡ is_alone worker.old }
+        ensures alone { company_of worker.new ≡ company_of worker.old }
         ensures done { IfOk result (IsFlushed B.files B.sizes B.name worker.old worker.new) }
         ensures carried { AllCarried worker.old worker.new }
         ensures count { IfOk result (λ f. (seat_of worker.new).count ≡ (seat_of worker.old).count + entered_in f) }

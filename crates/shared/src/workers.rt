@@ -6,7 +6,7 @@ ghost use Rattle.crossbeam_queue.specs.Passes.{view};
 ghost use Rattle.held.specs.Called.{Goes, Only};
 ghost use Rattle.ring.specs.Order.{Stands};
 ghost use Rattle.shared.specs.Settled.{EndsOwn};
-ghost use Rattle.shared.specs.Workers.{AllCarried, AllEnded, IsEnd, IsWorkerOf, IsWriteBack, is_alone, popped_by, pushed_by, seat_of};
+ghost use Rattle.shared.specs.Workers.{AllCarried, AllEnded, IsEnd, IsWorkerOf, IsWriteBack, company_of, popped_by, pushed_by, seat_of};
 
 use crate::cache::SharedCache;
 use crate::turns::Flushed;
@@ -33,7 +33,7 @@ impl<B: Naming, D: BlockDevice, T: Trail> SharedCache<B, D, T> {
         ensures only { Only (λ e. IsWriteBack e.event) (seat_of worker.old) (seat_of worker.new) }
         ensures own { EndsOwn B.name (seat_of worker.old) (seat_of worker.new) }
         ensures popped { popped_by worker.new ≡ popped_by worker.old }
-        ensures alone { is_alone worker.new ≡ is_alone worker.old }
+        ensures alone { company_of worker.new ≡ company_of worker.old }
         ensures carried { AllCarried worker.old worker.new }
     {
         self.flushers.fetch_add(1, Ordering::SeqCst);
@@ -51,7 +51,7 @@ impl<B: Naming, D: BlockDevice, T: Trail> SharedCache<B, D, T> {
         ensures only { Only (λ e. IsWriteBack e.event) (seat_of worker.old) (seat_of worker.new) }
         ensures own { EndsOwn B.name (seat_of worker.old) (seat_of worker.new) }
         ensures popped { popped_by worker.new ≡ popped_by worker.old }
-        ensures alone { is_alone worker.new ≡ is_alone worker.old }
+        ensures alone { company_of worker.new ≡ company_of worker.old }
         ensures carried { AllCarried worker.old worker.new }
     {
         'turns: for _ in rt.forever() {
@@ -76,7 +76,7 @@ impl<B: Naming, D: BlockDevice, T: Trail> SharedCache<B, D, T> {
         ensures goes { Goes (seat_of worker.old) (seat_of worker.new) }
         ensures only { Only (λ e. IsEnd e.event) (seat_of worker.old) (seat_of worker.new) }
         ensures pushed { pushed_by worker.new ≡ pushed_by worker.old }
-        ensures alone { is_alone worker.new ≡ is_alone worker.old }
+        ensures alone { company_of worker.new ≡ company_of worker.old }
         ensures ended { AllEnded worker.old worker.new }
         ensures emptied { fifo.Held 0 (Stands (view worker.new.pass)) }
     {

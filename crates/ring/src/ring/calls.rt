@@ -40,7 +40,7 @@ impl Ring {
         sample: Parcel,
     ) -> Result<(Ring, RingPass, Parcel), Refusal>
         ensures pass { IfOk result (λ r. Serves r.0 r.1) }
-        ensures empty { IfOk result (λ r. view r.1 ≡ log 2 true sample.task.cache sample.task.serial (length sample.task.bytes) sample.table [] []) }
+        ensures empty { IfOk result (λ r. view r.1 ≡ log 2 true 0 sample.task.cache sample.task.serial (length sample.task.bytes) sample.table [] []) }
         ensures back { IfOk result (λ r. r.2 ≡ sample) }
         ensures refused { IsOkUnless result Refusal.Memory }
     {
@@ -65,7 +65,7 @@ impl Ring {
     ) -> Result<(Ring, RingPass, sides::Opened), Refusal>
         requires { 0 < length opened.blocks }
         ensures pass { IfOk result (λ r. Serves r.0 r.1) }
-        ensures empty { IfOk result (λ r. view r.1 ≡ log 2 true name geometry.now.blocks geometry.now.page opened.table [] []) }
+        ensures empty { IfOk result (λ r. view r.1 ≡ log 2 true 0 name geometry.now.blocks geometry.now.page opened.table [] []) }
         ensures back { IfOk result (λ r. r.2 ≡ opened) }
         ensures refused { IsOkUnless result Refusal.Memory }
     {

@@ -1,6 +1,6 @@
 use Rattle.std.proofs.Common.{◌≡◌}
 use Rattle.held.specs.Called.{Goes, Only}
-use Rattle.shared.specs.Workers.{AllEnded, AllOver, IsEnd, IsWorkerOf, is_alone, pushed_by}
+use Rattle.shared.specs.Workers.{AllEnded, AllOver, IsEnd, IsWorkerOf, company_of, pushed_by}
 use Rattle.shared.proofs.close.drain.Given as goal
 
 abbrev pub invariant-jobs : goal.invariant-jobs
@@ -11,5 +11,5 @@ invariant-jobs g l = record {
   ended : AllEnded l.initial.own l.own;
   over : AllOver l.initial.own l.own l.state.core.state;
   pushed : pushed_by l.own ≡ pushed_by l.initial.own;
-  alone : is_alone l.own ≡ is_alone l.initial.own;
+  alone : company_of l.own ≡ company_of l.initial.own;
 }

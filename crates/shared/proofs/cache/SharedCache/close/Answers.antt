@@ -6,7 +6,7 @@ use Rattle.held.specs.declared.log.Seat.{Seat}
 use Rattle.deeds.specs.Rules.{Knows}
 use Rattle.tied.proofs.Tied.{tied_at, tied_busy, tied_honest}
 use Rattle.held.specs.Shown.{SeatSeen}
-use Rattle.shared.specs.Workers.{AllEnded, AllOver, is_alone, pushed_by}
+use Rattle.shared.specs.Workers.{AllEnded, AllOver, company_of, pushed_by}
 use Rattle.shared.specs.declared.worker.Worker.{Worker}
 use Rattle.shared.proofs.Closing.{not_by_its_own}
 use Rattle.shared.proofs.cache.SharedCache.close.Goals as goal
@@ -68,5 +68,5 @@ pub returns-in-Err-clause-ended : goal.returns-in-Err-clause-ended
 returns-in-Err-clause-ended g c =
     let with : SeatSeen → Worker = λ s. record { seat = s; pass = c.drain.new.own.pass } in
     subst (λ (s : SeatSeen). AllEnded c.args.own (with s) × (pushed_by (with s) ≡ pushed_by c.args.own)
-    × (is_alone (with s) ≡ is_alone c.args.own)) (sym c.in-Err.ensures.err.3)
+    × (company_of (with s) ≡ company_of c.args.own)) (sym c.in-Err.ensures.err.3)
     (c.drain.ensures.ended, c.drain.ensures.same.0, c.drain.ensures.same.1)

@@ -1,7 +1,7 @@
 use Rattle.std.proofs.Common.{◌≡◌}
 use Rattle.held.specs.Called.{Goes, Only}
 use Rattle.shared.specs.Own.{IsEviction}
-use Rattle.shared.specs.Workers.{IsWorkerOf, is_alone, popped_by, pushed_by}
+use Rattle.shared.specs.Workers.{IsWorkerOf, company_of, popped_by, pushed_by}
 use Rattle.shared.proofs.cache.SharedCache.evictor.Given as goal
 
 abbrev pub invariant-turns : goal.invariant-turns
@@ -10,5 +10,5 @@ invariant-turns g l = record {
   goes : Goes l.initial.worker.seat l.worker.seat;
   only : Only (λ e. IsEviction e.event) l.initial.worker.seat l.worker.seat;
   ring : (popped_by l.worker ≡ popped_by l.initial.worker) × (pushed_by l.worker ≡ pushed_by l.initial.worker);
-  alone : is_alone l.worker ≡ is_alone l.initial.worker;
+  alone : company_of l.worker ≡ company_of l.initial.worker;
 }

@@ -1,6 +1,6 @@
 use Rattle.std.proofs.Common.{◌≡◌}
 use Rattle.held.specs.Called.{Goes, Only}
-use Rattle.shared.specs.Workers.{AllEnded, IsEnd, IsWorkerOf, is_alone, pushed_by}
+use Rattle.shared.specs.Workers.{AllEnded, IsEnd, IsWorkerOf, company_of, pushed_by}
 use Rattle.shared.proofs.cache.SharedCache.io_worker.Given as goal
 
 abbrev pub invariant-turns : goal.invariant-turns
@@ -9,6 +9,6 @@ invariant-turns g l = record {
   goes : Goes l.initial.worker.seat l.worker.seat;
   only : Only (λ e. IsEnd e.event) l.initial.worker.seat l.worker.seat;
   pushed : pushed_by l.worker ≡ pushed_by l.initial.worker;
-  alone : is_alone l.worker ≡ is_alone l.initial.worker;
+  alone : company_of l.worker ≡ company_of l.initial.worker;
   ended : AllEnded l.initial.worker l.worker;
 }

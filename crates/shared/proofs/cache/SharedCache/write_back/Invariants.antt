@@ -1,7 +1,7 @@
 use Rattle.std.proofs.Common.{◌≡◌}
 use Rattle.held.specs.Called.{Goes, Only}
 use Rattle.shared.specs.Settled.{EndsOwn}
-use Rattle.shared.specs.Workers.{AllCarried, IsWorkerOf, IsWriteBack, is_alone, popped_by}
+use Rattle.shared.specs.Workers.{AllCarried, IsWorkerOf, IsWriteBack, company_of, popped_by}
 use Rattle.shared.proofs.Carrying.{Puts}
 use Rattle.shared.proofs.cache.SharedCache.write_back.Given as goal
 
@@ -12,7 +12,7 @@ invariant-turns g l = record {
   only : Only (λ e. IsWriteBack e.event) l.initial.worker.seat l.worker.seat;
   own : EndsOwn g.B.Naming.name l.initial.worker.seat l.worker.seat;
   popped : popped_by l.worker ≡ popped_by l.initial.worker;
-  alone : is_alone l.worker ≡ is_alone l.initial.worker;
+  alone : company_of l.worker ≡ company_of l.initial.worker;
   puts : Puts l.initial.worker l.worker;
   carried : AllCarried l.initial.worker l.worker;
 }
