@@ -84,7 +84,7 @@ stands port v two items views h at = stood v items views port (in_use v items vi
 
 -- a view of pass i, in a ring for these jobs with these histories
 abbrev Tells : ℕ → ℕ → ℕ → TableId → List (ℕ × ParcelSeen) → List (ℕ × ParcelSeen) → ℕ → Log → Type 0
-Tells c b p t ps gs i y = y ≡ log 2 y.alone y.made c b p t (of i ps) (of i gs)
+Tells c b p t ps gs i y = y ≡ log 2 y.alone y.made y.depth c b p t (of i ps) (of i gs)
 
 told_at : (c b p : ℕ) (t : TableId) (ps gs : List (ℕ × ParcelSeen)) (i port : ℕ) (w y : Log) → i ≡ port → w ≡ y → Tells c b p t ps gs port w → Tells c b p t ps gs i y
 told_at c b p t ps gs i port w y is same s = subst (λ (j : ℕ). Tells c b p t ps gs j y) (sym is) (subst (λ (z : Log). Tells c b p t ps gs port z) same s)
@@ -92,7 +92,7 @@ told_at c b p t ps gs i port w y is same s = subst (λ (j : ℕ). Tells c b p t 
 pub pushes : (n port : ℕ) (v : Log) (x : ParcelSeen) → n ≡ 64 → v.stage ≡ 2 → IsParcelFor v.cache v.blocks v.page v.table x → fifo.Pushes Ruled n port v x (Enqueues v x)
 pushes n port v x places two fits items views room h at = let u = in_use v items views port two h at in let c = u.0 in let b = u.1 in let p = u.2 in let t = u.3 in let ps = u.4 in let gs = u.5 in let kept = u.6 in
     let w : Log = with_pushed v x in let mine = kept.passes port v at in
-    let same : Tells c b p t (ps ++ (port, x) ∷ []) gs port w = ap (λ y. with_pushed y x) mine ∙ ap (λ l. log 2 v.alone v.made c b p t l (of port gs)) (sym (of_same port x ps)) in
+    let same : Tells c b p t (ps ++ (port, x) ∷ []) gs port w = ap (λ y. with_pushed y x) mine ∙ ap (λ l. log 2 v.alone v.made v.depth c b p t l (of port gs)) (sym (of_same port x ps)) in
     let fit : IsParcelFor c b p t x = subst (λ (y : Log). IsParcelFor y.cache y.blocks y.page y.table x) mine fits in (
       w,
       inr (inr (
@@ -107,7 +107,7 @@ pushes n port v x places two fits items views room h at = let u = in_use v items
           fit = All-append (IsParcelFor c b p t) items (x ∷ []) kept.fit (All-cons (IsParcelFor c b p t) x [] fit (All-nil (IsParcelFor c b p t)));
           passes = λ i y e. ⊎_elim
               (λ (q : (i ≡ port) × (w ≡ y)). told_at c b p t (ps ++ (port, x) ∷ []) gs i port w y q.0 q.1 same)
-              (λ (q : (i ≢ port) × (get_elem? views i ≡ some y)). kept.passes i y q.1 ∙ ap (λ l. log 2 y.alone y.made c b p t l (of i gs)) (sym (of_other i port x ps q.0)))
+              (λ (q : (i ≢ port) × (get_elem? views i ≡ some y)). kept.passes i y q.1 ∙ ap (λ l. log 2 y.alone y.made y.depth c b p t l (of i gs)) (sym (of_other i port x ps q.0)))
               (at_set views port i w y e);
           others = λ i le. let q = beyond views i port v w at le in (of_other i port x ps q.1 ∙ (kept.others i q.0).0, (kept.others i q.0).1);
           alone = λ i y e a. ⊎_elim
@@ -126,7 +126,7 @@ pushes n port v x places two fits items views room h at = let u = in_use v items
 pub pops : (port : ℕ) (v : Log) → v.stage ≡ 2 → fifo.Pops Ruled port v (Dequeues v)
 pops port v two x items views h at = let u = in_use v (x ∷ items) views port two h at in let c = u.0 in let b = u.1 in let p = u.2 in let t = u.3 in let ps = u.4 in let gs = u.5 in let kept = u.6 in
     let w : Log = with_popped v x in let mine = kept.passes port v at in
-    let same : Tells c b p t ps (gs ++ (port, x) ∷ []) port w = ap (λ y. with_popped y x) mine ∙ ap (λ l. log 2 v.alone v.made c b p t (of port ps) l) (sym (of_same port x gs)) in (
+    let same : Tells c b p t ps (gs ++ (port, x) ∷ []) port w = ap (λ y. with_popped y x) mine ∙ ap (λ l. log 2 v.alone v.made v.depth c b p t (of port ps) l) (sym (of_same port x gs)) in (
       w,
       inr (inr (
         c,
@@ -140,7 +140,7 @@ pops port v two x items views h at = let u = in_use v (x ∷ items) views port t
           fit = All-tail (IsParcelFor c b p t) x items kept.fit;
           passes = λ i y e. ⊎_elim
               (λ (q : (i ≡ port) × (w ≡ y)). told_at c b p t ps (gs ++ (port, x) ∷ []) i port w y q.0 q.1 same)
-              (λ (q : (i ≢ port) × (get_elem? views i ≡ some y)). kept.passes i y q.1 ∙ ap (λ l. log 2 y.alone y.made c b p t (of i ps) l) (sym (of_other i port x gs q.0)))
+              (λ (q : (i ≢ port) × (get_elem? views i ≡ some y)). kept.passes i y q.1 ∙ ap (λ l. log 2 y.alone y.made y.depth c b p t (of i ps) l) (sym (of_other i port x gs q.0)))
               (at_set views port i w y e);
           others = λ i le. let q = beyond views i port v w at le in ((kept.others i q.0).0, of_other i port x gs q.1 ∙ (kept.others i q.0).1);
           alone = λ i y e a. ⊎_elim
@@ -156,13 +156,13 @@ pops port v two x items views h at = let u = in_use v (x ∷ items) views port t
       (refl, subst (λ (y : Log). IsParcelFor y.cache y.blocks y.page y.table x) (sym mine) (All-head (IsParcelFor c b p t) x items kept.fit), items, stood v (x ∷ items) views port u at),
     )
 
-pub forks : (port : ℕ) (v : Log) → v.stage ≡ 2 → Forks Ruled port v (accompanied v) (opened false v)
+pub forks : (port : ℕ) (v : Log) → v.stage ≡ 2 → Forks Ruled port v (accompanied v) (opened false (v.depth + 1) v)
 forks port v two items views h at = let u = in_use v items views port two h at in let c = u.0 in let b = u.1 in let p = u.2 in let t = u.3 in let ps = u.4 in let gs = u.5 in let kept = u.6 in
-    let mine = kept.passes port v at in let left : Log = accompanied v in let fresh : Log = opened false v in let vs : List Log = set views port left in
+    let mine = kept.passes port v at in let left : Log = accompanied v in let fresh : Log = opened false (v.depth + 1) v in let vs : List Log = set views port left in
     let long : length vs ≡ length views = length-set views port left in
     let new = kept.others (length vs) (omega arith) in
     let stays : Tells c b p t ps gs port left = ap (λ y. accompanied y) mine in
-    let joins : Tells c b p t ps gs (length vs) fresh = ap (λ (y : Log). opened false y) mine ∙ ap (λ l. log 2 false 0 c b p t l []) (sym new.0) ∙ ap (λ l. log 2 false 0 c b p t (of (length vs) ps) l) (sym new.1) in
+    let joins : Tells c b p t ps gs (length vs) fresh = ap (λ (y : Log). opened false (v.depth + 1) y) mine ∙ ap (λ l. log 2 false 0 (v.depth + 1) c b p t l []) (sym new.0) ∙ ap (λ l. log 2 false 0 (v.depth + 1) c b p t (of (length vs) ps) l) (sym new.1) in
     inr (inr (
       c,
       b,
@@ -224,8 +224,8 @@ none_left : (x : ParcelSeen) (xs : List ParcelSeen) → length (x ∷ xs) ≡ 1 
 none_left x [] e = refl
 none_left x (y ∷ ys) e = absurd (omega arith)
 
-pub opens : (port : ℕ) (v : Log) → v.stage ≡ 1 → fifo.Pops Ruled port v (λ x w. (w ≡ opened true v) × (v.pushed ≡ x ∷ []))
-opens port v one x items views h at = let r = seeding v (x ∷ items) views port one h at in let empty = none_left x items r.0 in let w : Log = opened true v in
+pub opens : (port : ℕ) (v : Log) → v.stage ≡ 1 → fifo.Pops Ruled port v (λ x w. (w ≡ opened true 0 v) × (v.pushed ≡ x ∷ []))
+opens port v one x items views h at = let r = seeding v (x ∷ items) views port one h at in let empty = none_left x items r.0 in let w : Log = opened true 0 v in
     let a = only_view v v views port r.1 at in (
       w,
       inr (inr (
@@ -252,7 +252,7 @@ opens_full port v one items views h at = (seeding v items views port one h at).0
 
 -- a ring that was opened by a sample is for what the sample tells
 pub opened_for : (name blocks page : ℕ) (sample : ParcelSeen) (p : Pass ParcelSeen Log) → IsSampleFor name blocks page sample.task
-    → view p ≡ log 2 true 0 sample.task.cache sample.task.serial (length sample.task.bytes) sample.table [] []
+    → view p ≡ log 2 true 0 0 sample.task.cache sample.task.serial (length sample.task.bytes) sample.table [] []
     → Carries name blocks page sample.table p
 opened_for name blocks page sample p is e = record {
   cache = ap (λ (y : Log). y.cache) e ∙ is.cache;

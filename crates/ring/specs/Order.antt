@@ -9,11 +9,12 @@ use Rattle.ring.specs.declared.log.Log.{Log}
 
 -- ---- what a pass knows
 
-abbrev pub log : ℕ → Bool → ℕ → ℕ → ℕ → ℕ → TableId → List ParcelSeen → List ParcelSeen → Log
-log stage alone made cache blocks page table pushed popped = record {
+abbrev pub log : ℕ → Bool → ℕ → ℕ → ℕ → ℕ → ℕ → TableId → List ParcelSeen → List ParcelSeen → Log
+log stage alone made depth cache blocks page table pushed popped = record {
   stage = stage;
   alone = alone;
   made = made;
+  depth = depth;
   cache = cache;
   blocks = blocks;
   page = page;
@@ -24,16 +25,16 @@ log stage alone made cache blocks page table pushed popped = record {
 
 -- at a new ring
 abbrev pub start : Log
-start = log 0 true 0 0 0 0 no_table [] []
+start = log 0 true 0 0 0 0 0 no_table [] []
 
 -- where a sample lies in it: the sample has the cache's name, the device's blocks as its serial, and a page of bytes
 abbrev pub seeded : ParcelSeen → Log
 seeded sample =
-    log 1 true 0 sample.task.cache sample.task.serial (length sample.task.bytes) sample.table (sample ∷ []) []
+    log 1 true 0 0 sample.task.cache sample.task.serial (length sample.task.bytes) sample.table (sample ∷ []) []
 
--- at an open ring for the same parcels, with nothing pushed or popped
-abbrev pub opened : Bool → Log → Log
-opened alone v = log 2 alone 0 v.cache v.blocks v.page v.table [] []
+-- at an open ring for the same parcels, with nothing pushed or popped: the first pass, or one that was made of v
+abbrev pub opened : Bool → ℕ → Log → Log
+opened alone depth v = log 2 alone 0 depth v.cache v.blocks v.page v.table [] []
 
 -- with another pass beside it, that was made of it
 abbrev pub accompanied : Log → Log
@@ -74,7 +75,7 @@ of i (e ∷ es) = pick i e.0 e.1 ++ of i es
 pub record Kept (cache blocks page : ℕ) (table : TableId) (pushed popped : List (ℕ × ParcelSeen)) (items : List ParcelSeen) (views : List Log) : Type 0 where
   pub order : jobs pushed ≡ jobs popped ++ items
   pub fit : All (IsParcelFor cache blocks page table) items
-  pub passes : (i : ℕ) (v : Log) → get_elem? views i ≡ some v → v ≡ log 2 v.alone v.made cache blocks page table (of i pushed) (of i popped)
+  pub passes : (i : ℕ) (v : Log) → get_elem? views i ≡ some v → v ≡ log 2 v.alone v.made v.depth cache blocks page table (of i pushed) (of i popped)
   pub others : (i : ℕ) → length views ≤ i → (of i pushed ≡ []) × (of i popped ≡ [])
   -- a pass that is alone is the only one, and did it all
   pub alone : (i : ℕ) (v : Log) → get_elem? views i ≡ some v → v.alone ≡ true → (length views ≡ 1) × (v.pushed ≡ jobs pushed) × (v.popped ≡ jobs popped)

@@ -29,6 +29,8 @@ pub struct Log {
     pub alone: bool,
     /// How many passes were made of it.
     pub made: u64,
+    /// How many passes it comes of, each made of the one before.
+    pub depth: u64,
     /// The name of the cache whose jobs are in the parcels.
     pub cache: u64,
     /// Blocks of its device.
@@ -77,7 +79,7 @@ impl Outcome<Parcel, Log> for Opened {
     ghost use Rattle.std.specs.Prelude.{◌≡◌, true, [], ◌∷◌};
     ghost use Rattle.ring.specs.Order.{opened};
 
-    ghost then = { λ v x w. (w ≡ opened true v) × (v.pushed ≡ x ∷ []) };
+    ghost then = { λ v x w. (w ≡ opened true 0 v) × (v.pushed ≡ x ∷ []) };
 }
 
 impl Lesson<Parcel, Log> for Opened {
@@ -120,10 +122,10 @@ impl Lesson<Parcel, Log> for Popped {
 pub struct Beside;
 
 impl Split<Log> for Beside {
-    ghost use Rattle.std.specs.Prelude.{false};
+    ghost use Rattle.std.specs.Prelude.{false, ◌+◌};
     ghost use Rattle.ring.specs.Order.{opened, accompanied};
 
     ghost left = { accompanied };
 
-    ghost right = { opened false };
+    ghost right = { λ v. opened false (v.depth + 1) v };
 }

@@ -116,10 +116,11 @@ module _ (files : Catalog) (sizes : Sizes) (name : ℕ) (whole : Room) where
 module _ (whole : Room) where
   pub gave_up : (files : Catalog) (sizes : Sizes) (name : ℕ) (h : HandleId) (first last : PageIndex) (m : SyncId) (old new : HeldSeen) (before at over after : SeatSeen)
       (begin : Slip) (why d : Denied) → Made (event.SyncBegin h first last) (reply.Sync m) old new before at begin → Goes at over
-      → Goes over after → IsDenied files sizes name whole (λ e. e ≡ event.SyncStep m) at over why → (why.slip ≡ None → why.refusal ≡ TrailFull)
-      → ((d ≡ why) × IsDropped m over after) ⊎ ((d ≡ record { refusal = Stranger; slip = None }) × IsGone files sizes name m after)
+      → IsDenied files sizes name whole (λ e. e ≡ event.SyncStep m) at over why → (why.slip ≡ None → why.refusal ≡ TrailFull)
+      → IsFinal files sizes name over why
+      → ((d ≡ why) × IsDropped m over after) ⊎ ((d ≡ record { refusal = Stranger; slip = None }) × IsGone files sizes name m over after)
       → IsSyncDenied files sizes name whole h first last before after d
-  gave_up files sizes name h first last m old new before at over after begin why d b goes past denied full (inl p) = inr (inl record {
+  gave_up files sizes name h first last m old new before at over after begin why d b goes denied full final (inl p) = inr (inl record {
     sync = m;
     at = at;
     over = over;
@@ -129,7 +130,7 @@ module _ (whole : Room) where
     full = subst (λ (x : Denied). x.slip ≡ None → x.refusal ≡ TrailFull) (sym p.0) full;
     dropped = p.1;
   })
-  gave_up files sizes name h first last m old new before at over after begin why d b goes past denied full (inr p) = inr (inr record {
+  gave_up files sizes name h first last m old new before at over after begin why d b goes denied full final (inr p) = inr (inr record {
     sync = m;
     at = at;
     over = over;
@@ -138,7 +139,7 @@ module _ (whole : Room) where
     goes = goes;
     denied = denied;
     full = full;
-    past = past;
+    final = final;
     gone = p.1;
     is = p.0;
   })
@@ -146,7 +147,7 @@ module _ (whole : Room) where
 -- no request was in flight where its turn was refused so that one's end might help
 pub gave_up_final : (files : Catalog) (sizes : Sizes) (name : ℕ) (m : SyncId) (over after : SeatSeen) (why d : Denied) → Goes over after
     → IsFinal files sizes name over why
-    → ((d ≡ why) × IsDropped m over after) ⊎ ((d ≡ record { refusal = Stranger; slip = None }) × IsGone files sizes name m after)
+    → ((d ≡ why) × IsDropped m over after) ⊎ ((d ≡ record { refusal = Stranger; slip = None }) × IsGone files sizes name m over after)
     → IsFinal files sizes name after d
 gave_up_final files sizes name m over after why d goes final (inl p) =
     subst (IsFinal files sizes name after) (sym p.0) (final_on files sizes name over after why goes final)
@@ -161,7 +162,7 @@ dropped_entry m old new before after slip r is q = (slip, r, is, makes_by (event
 
 pub dropped_by : (files : Catalog) (sizes : Sizes) (name : ℕ) (m : SyncId) (old new : HeldSeen) (before after : SeatSeen) (slip : Slip)
     (d : Denied) → Made (event.SyncDrop m) reply.Dropped old new before after slip
-    → ((d ≡ d) × IsDropped m before after) ⊎ ((d ≡ record { refusal = Stranger; slip = None }) × IsGone files sizes name m after)
+    → ((d ≡ d) × IsDropped m before after) ⊎ ((d ≡ record { refusal = Stranger; slip = None }) × IsGone files sizes name m before after)
 dropped_by files sizes name m old new before after slip d q = inl (refl, dropped_entry m old new before after slip reply.Dropped tt q)
 
 stranger_alone : (there : Bool) (why : Refusal) → (if there then None else refuse Stranger) ≡ Some (reply.Refused why) → why ≡ Stranger
@@ -182,7 +183,7 @@ module _ (whole : Room) where
   -- where the drop was refused with a slip, its entry stands all the same
   pub dropped_refused : (files : Catalog) (sizes : Sizes) (name : ℕ) (m : SyncId) (old new : HeldSeen) (before after : SeatSeen) (other d : Denied)
       → under.IsDenied files sizes name whole (event.SyncDrop m) old new before after other → is_some other.slip ≡ true
-      → ((d ≡ d) × IsDropped m before after) ⊎ ((d ≡ record { refusal = Stranger; slip = None }) × IsGone files sizes name m after)
+      → ((d ≡ d) × IsDropped m before after) ⊎ ((d ≡ record { refusal = Stranger; slip = None }) × IsGone files sizes name m before after)
   dropped_refused files sizes name m old new before after other d q is = inl (refl, go other.refusal other.slip q is)
     where
       go : (r : Refusal) (o : Option Slip) → under.DeniedBy files sizes name whole (event.SyncDrop m) old new before after r o → is_some o ≡ true
@@ -195,7 +196,7 @@ module _ (files : Catalog) (sizes : Sizes) (name : ℕ) (whole : Room) where
   -- where it was refused without one, the sync was in progress no longer: room is kept for the drop of each that is
   pub gone_by : (m : SyncId) (old new : HeldSeen) (before after : SeatSeen) (other : Denied)
       → under.IsDenied files sizes name whole (event.SyncDrop m) old new before after other → is_some other.slip ≡ false
-      → (tests old.core.state (event.SyncDrop m) ≡ None → false ≡ true) → IsGone files sizes name m after
+      → (tests old.core.state (event.SyncDrop m) ≡ None → false ≡ true) → IsGone files sizes name m before after
   gone_by m old new before after other q bare refused = go other.refusal other.slip q bare
     where
       out : (o : Option Sync) → ((if is_some o then None else refuse Stranger) ≡ None → false ≡ true) → o ≡ None
@@ -203,8 +204,9 @@ module _ (files : Catalog) (sizes : Sizes) (name : ℕ) (whole : Room) where
       out (Some y) h = absurd (let k : false ≡ true = h refl in cc)
 
       go : (r : Refusal) (o : Option Slip) → under.DeniedBy files sizes name whole (event.SyncDrop m) old new before after r o
-          → is_some o ≡ false → IsGone files sizes name m after
+          → is_some o ≡ false → IsGone files sizes name m before after
       go r None q bare = record {
+        shown = q.1.shown;
         state = old.core.state;
         leaves = subst (λ l. After files sizes name l old.core.state) (sym q.1.sees) q.1.leaves;
         gone = out (map.get old.core.state.syncs m.0) refused;

@@ -4,7 +4,7 @@ use Rattle.std.specs.Prelude.{◌≡◌, ◌⊎◌, ◌+◌, ◌≤◌, ℕ, Opt
 use Rattle.errboard.specs.Shown.{PassSeen}
 use Rattle.held.specs.Shown.{SeatSeen}
 use Rattle.held.specs.declared.log.Slip.{Slip}
-use Rattle.held.specs.Called.{Goes, Only}
+use Rattle.held.specs.Called.{Goes, IsShown, Only}
 use Rattle.held.specs.declared.denied.Denied.{Denied}
 use Rattle.machine.specs.declared.event.Event.{Event}
 use Rattle.machine.specs.declared.event.Event.TheVariants as event
@@ -24,6 +24,7 @@ use Rattle.trail.specs.declared.entry.Entry.{Entry}
 use Rattle.shared.specs.Called.{Makes}
 use Rattle.shared.specs.Denials.{IsDenied, IsFullIfNoSlip, MadeOne}
 use Rattle.shared.specs.Polls.{Hears, IsLevelled, Polled}
+use Rattle.shared.specs.Rooms.{IsFinal}
 
 -- the last step of a sync, by the code of a failed write or without one
 abbrev pub end_reply : Option ℕ → Reply
@@ -123,13 +124,15 @@ IsNotBegun files sizes name whole h first last before after d =
     ⊎ (IsDenied files sizes name whole (λ e. e ≡ event.SyncBegin h first last) before after d × MadeOne d.slip before after
     × IsFullIfNoSlip before after d)
 
--- the seat saw a history after which the sync is in progress no longer
-pub record IsGone (files : Catalog) (sizes : Sizes) (name : ℕ) (sync : SyncId) (seat : SeatSeen) : Type 0 where
+-- the seat made nothing, and saw a history after which the sync is in progress no longer
+pub record IsGone (files : Catalog) (sizes : Sizes) (name : ℕ) (sync : SyncId) (before after : SeatSeen) : Type 0 where
+  pub shown : IsShown before after
   pub state : State
-  pub leaves : After files sizes name seat.list state
+  pub leaves : After files sizes name after.list state
   pub gone : map.get state.syncs sync.0 ≡ None
 
--- a step of a sync that this call began was refused, and the trail was full for its drop: another had ended it
+-- a step of a sync that this call began was refused for good, and after that, without an event of this call, the sync was found to be over:
+-- another had ended it
 pub record WasLost (files : Catalog) (sizes : Sizes) (name : ℕ) (whole : Room) (h : HandleId) (first last : PageIndex) (before after : SeatSeen) (d : Denied)
     : Type 0 where
   pub sync : SyncId
@@ -140,8 +143,8 @@ pub record WasLost (files : Catalog) (sizes : Sizes) (name : ℕ) (whole : Room)
   pub goes : Goes at over
   pub denied : IsDenied files sizes name whole (λ e. e ≡ event.SyncStep sync) at over why
   pub full : why.slip ≡ None → why.refusal ≡ TrailFull
-  pub past : Goes over after
-  pub gone : IsGone files sizes name sync after
+  pub final : IsFinal files sizes name over why
+  pub gone : IsGone files sizes name sync over after
   pub is : d ≡ record { refusal = Stranger; slip = None }
 
 -- no sync was begun, or the one that was is given up, or was lost

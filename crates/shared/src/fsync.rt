@@ -277,7 +277,7 @@ impl<B: Naming, D: BlockDevice, T: Trail> SharedCache<B, D, T> {
         ensures goes { Goes seat.old seat.new }
         ensures only { Only (λ e. e.event ≡ event.SyncDrop sync) seat.old seat.new }
         ensures few { seat.new.count ≤ seat.old.count + 1 }
-        ensures dropped { ((result ≡ denied) × IsDropped sync seat.old seat.new) ⊎ ((result ≡ record { refusal = Stranger; slip = None }) × IsGone B.files B.sizes B.name sync seat.new) }
+        ensures dropped { ((result ≡ denied) × IsDropped sync seat.old seat.new) ⊎ ((result ≡ record { refusal = Stranger; slip = None }) × IsGone B.files B.sizes B.name sync seat.old seat.new) }
     {
         let Err(other) = self.state.lock(rt).sync_drop(seat, sync) else {
             return denied;

@@ -58,7 +58,7 @@ impl<D: BlockDevice, T: Trail> Parts<D, T> {
         ensures begun { IfOk result (λ r. (r.0.held.core.state ≡ adopted r.0.geometry r.0.name (begun_with r.0.held.core.state)) × IsCatalog r.0.geometry (begun_with r.0.held.core.state)) }
         ensures idle { IfOk result (λ r. map.len r.0.held.core.state.requests ≡ 0) }
         ensures own { IfOk result (λ r. IsWorkerOf r.0.ring r.0.name r.0.held.log.table r.0.deeds.table r.0.geometry r.0.own) }
-        ensures first { IfOk result (λ r. (company_of r.0.own ≡ (true, 0)) × (popped_by r.0.own ≡ []) × (pushed_by r.0.own ≡ [])) }
+        ensures first { IfOk result (λ r. (company_of r.0.own ≡ (true, 0, 0)) × (popped_by r.0.own ≡ []) × (pushed_by r.0.own ≡ [])) }
         ensures seated { IfOk result (λ r. IsFresh r.0.held.log.table name (seat_of r.0.own) seat_count) }
         ensures told { IfOk result (λ r. r.0.deeds.told ≡ is_some (D.told device).contents) }
         ensures blocks { IfOk result (λ r. AreBlocksOf r.0.deeds.told r.0.deeds.blocks (D.told device)) }
@@ -133,7 +133,7 @@ impl<D: BlockDevice, T: Trail> Parts<D, T> {
         ensures begun { IfOk result (λ r. (r.0.held.core.state ≡ adopted r.0.geometry r.0.name (begun_with r.0.held.core.state)) × IsCatalog r.0.geometry (begun_with r.0.held.core.state)) }
         ensures idle { IfOk result (λ r. map.len r.0.held.core.state.requests ≡ 0) }
         ensures own { IfOk result (λ r. IsWorkerOf r.0.ring r.0.name r.0.held.log.table r.0.deeds.table r.0.geometry r.0.own) }
-        ensures first { IfOk result (λ r. (company_of r.0.own ≡ (true, 0)) × (popped_by r.0.own ≡ []) × (pushed_by r.0.own ≡ [])) }
+        ensures first { IfOk result (λ r. (company_of r.0.own ≡ (true, 0, 0)) × (popped_by r.0.own ≡ []) × (pushed_by r.0.own ≡ [])) }
         ensures seated { IfOk result (λ r. IsFresh r.0.held.log.table name (seat_of r.0.own) seat_count) }
         ensures told { IfOk result (λ r. r.0.deeds.told ≡ is_some (D.told device).contents) }
         ensures blocks { IfOk result (λ r. AreBlocksOf r.0.deeds.told r.0.deeds.blocks (D.told device)) }
@@ -197,7 +197,7 @@ fn ring_over<R: Wait, D: BlockDevice>(
     requires { IsDisk geometry.now (D.told device.now) }
     ensures few { OnOk result ((0 < seat_count) × (seat_count ≤ 64)) }
     ensures pass { IfOk result (λ r. Serves r.0 r.1 × Carries name geometry.now.blocks geometry.now.page r.2.table r.1) }
-    ensures first { IfOk result (λ r. view r.1 ≡ log 2 true 0 name geometry.now.blocks geometry.now.page r.2.table [] []) }
+    ensures first { IfOk result (λ r. view r.1 ≡ log 2 true 0 0 name geometry.now.blocks geometry.now.page r.2.table [] []) }
     ensures told { IfOk result (λ r. r.2.told ≡ is_some (D.told device.now).contents) }
     ensures blocks { IfOk result (λ r. AreBlocksOf r.2.told r.2.blocks (D.told device.now)) }
     ensures refused { IfErr result (λ e. e ≡ (if nat_lt 0 seat_count && nat_le seat_count 64 then Memory else BadConfig)) }

@@ -269,7 +269,7 @@ impl<B: Naming, D: BlockDevice, T: Trail> SharedCache<B, D, T> {
         ensures quiet { wants_room denied.refusal ≡ false → seat.new ≡ seat.old }
         ensures crammed { IfErr result (λ d. wants_room d.refusal ≡ true → (d ≡ denied) × IsCrammed d.refusal (mutex_guard_value guard.entry).core.state × IsUnwritten (mutex_guard_value guard.entry).core.state seat.old seat.new) }
         ensures legal { After B.files B.sizes B.name (mutex_guard_value guard.entry).log.history (mutex_guard_value guard.entry).core.state }
-        ensures within { IsTrue (is_geometry B.files B.sizes) }
+        ensures within { IsTrue (is_geometry B.sizes) }
         ensures stands { IfErr result (IsFinalOr denied B.files B.sizes B.name (mutex_guard_value guard.entry).core.state seat.new) }
         ensures settled { Settles B.name seat.old seat.new }
     {

@@ -1,7 +1,7 @@
 //! The calls of a ring. For a pass that is alone, the ring is a plain queue of 64 places: that is what ties an answer of
 //! nothing, and a parcel given back, to what the ring held.
 
-ghost use Rattle.std.specs.Prelude.{◌≡◌, ◌<◌, true, false, [], length, IfOk, IsOkUnless, MatchOption, MatchResult};
+ghost use Rattle.std.specs.Prelude.{◌≡◌, ◌+◌, ◌<◌, true, false, [], length, IfOk, IsOkUnless, MatchOption, MatchResult};
 ghost use Rattle.crossbeam_queue.specs.Fifo.{Held};
 ghost use Rattle.crossbeam_queue.specs.Passes.{view};
 ghost use Rattle.ring.specs.Order.{IsParcelFor, Stands, Enqueues, Dequeues, accompanied, log, opened};
@@ -40,7 +40,7 @@ impl Ring {
         sample: Parcel,
     ) -> Result<(Ring, RingPass, Parcel), Refusal>
         ensures pass { IfOk result (λ r. Serves r.0 r.1) }
-        ensures empty { IfOk result (λ r. view r.1 ≡ log 2 true 0 sample.task.cache sample.task.serial (length sample.task.bytes) sample.table [] []) }
+        ensures empty { IfOk result (λ r. view r.1 ≡ log 2 true 0 0 sample.task.cache sample.task.serial (length sample.task.bytes) sample.table [] []) }
         ensures back { IfOk result (λ r. r.2 ≡ sample) }
         ensures refused { IsOkUnless result Refusal.Memory }
     {
@@ -65,7 +65,7 @@ impl Ring {
     ) -> Result<(Ring, RingPass, sides::Opened), Refusal>
         requires { 0 < length opened.blocks }
         ensures pass { IfOk result (λ r. Serves r.0 r.1) }
-        ensures empty { IfOk result (λ r. view r.1 ≡ log 2 true 0 name geometry.now.blocks geometry.now.page opened.table [] []) }
+        ensures empty { IfOk result (λ r. view r.1 ≡ log 2 true 0 0 name geometry.now.blocks geometry.now.page opened.table [] []) }
         ensures back { IfOk result (λ r. r.2 ≡ opened) }
         ensures refused { IsOkUnless result Refusal.Memory }
     {
@@ -79,7 +79,7 @@ impl Ring {
     pub fn pass(&self, pass: &mut RingPass) -> RingPass
         requires { Serves self.now pass.old }
         ensures same { Serves self.now pass.new × (view pass.new ≡ accompanied (view pass.old)) }
-        ensures new { Serves self.now result × (view result ≡ opened false (view pass.old)) }
+        ensures new { Serves self.now result × (view result ≡ opened false ((view pass.old).depth + 1) (view pass.old)) }
     {
         self.queue.another::<Beside>(pass)
     }

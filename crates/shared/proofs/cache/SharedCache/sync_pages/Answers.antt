@@ -33,7 +33,7 @@ returns-in-Ok-sync_turns-clause-ended g c = syncs_by c.args.handle c.args.first 
 pub returns-in-Err-sync_turns-clause-denied : goal.returns-in-Err-sync_turns-clause-denied
 returns-in-Err-sync_turns-clause-denied g c = gave_up g.B.Naming.whole g.B.Naming.files g.B.Naming.sizes g.B.Naming.name c.args.handle c.args.first c.args.last _ _ _ _ _ _ _ _
     c.in-Err-sync_turns.denied c.give_up.result c.in-Ok-begun.ensures.made c.sync_turns.ensures.goes
-    c.give_up.ensures.goes c.in-Err-sync_turns.ensures.denied c.in-Err-sync_turns.ensures.full c.give_up.ensures.dropped
+    c.in-Err-sync_turns.ensures.denied c.in-Err-sync_turns.ensures.full c.in-Err-sync_turns.ensures.stands c.give_up.ensures.dropped
 
 pub returns-in-Err-sync_turns-clause-stands : goal.returns-in-Err-sync_turns-clause-stands
 returns-in-Err-sync_turns-clause-stands g c = inr (gave_up_final g.B.Naming.files g.B.Naming.sizes g.B.Naming.name _ _ _
