@@ -23,6 +23,7 @@ use Rattle.machine.specs.declared.event.Reply.{Reply}
 use Rattle.machine.specs.declared.event.Reply.TheVariants as reply
 use Rattle.pc_types.specs.declared.kind.Kind.{Kind}
 use Rattle.pc_types.specs.declared.kind.Kind.TheVariants.{Fill, Flush}
+use Rattle.pc_types.specs.declared.refusal.Refusal.{Refusal}
 use Rattle.pc_types.specs.Limits.{Sizes}
 use Rattle.machine.specs.Catalogs.{Catalog}
 use Rattle.trail.specs.declared.entry.Entry.{Entry}
@@ -41,7 +42,7 @@ use Rattle.held.proofs.Seats.{goes_same}
 use Rattle.shared.specs.Called.{Makes}
 use Rattle.shared.specs.Denials.{IsDenied, MadeOne}
 use Rattle.shared.specs.Seen.{FailedSeen}
-use Rattle.shared.specs.Workers.{AllEnded, Begins, Ends, IsEndOf, IsEndReply, IsFlushBegin, IsOfRequest, IsOwnFailure, fails_write, popped_by}
+use Rattle.shared.specs.Workers.{AllEnded, Begins, Ends, IsEndOf, IsEndReply, IsFlushBegin, IsOfRequest, IsOwnFailure, RefusesFirst, fails_write, popped_by}
 use Rattle.shared.specs.declared.ends.Done.{Done}
 use Rattle.shared.specs.declared.worker.Worker.{Worker}
 use Rattle.cachecore.specs.Replies.{buffer_of}
@@ -225,6 +226,28 @@ begins_first files sizes name job slip old new before after legal w own = record
   step = w.made.step;
   own = own;
 }
+
+pub refuses_first : (files : Catalog) (sizes : Sizes) (name : ℕ) (whole : Room) (old new : HeldSeen) (before after : SeatSeen) (d : Denied)
+    → After files sizes name old.log.history old.core.state → IsFirstDenied files sizes name whole old new before after d
+    → IfSome d.slip (RefusesFirst files sizes name d.refusal before after)
+refuses_first files sizes name whole old new before after d legal q = go d.refusal d.slip q.denied
+  where
+    go : (r : Refusal) (o : Option Slip) → under.DeniedBy files sizes name whole (event.FlushBegin q.file) old new before after r o
+        → IfSome o (RefusesFirst files sizes name r before after)
+    go r None h = tt
+    go r (Some slip) h = record {
+      file = q.file;
+      made = record {
+        earlier = old.log.history;
+        saw = h.entered.saw;
+        entered = subst (IsPrefix (old.log.history ++ entry_of before.number (event.FlushBegin q.file) (reply.Refused r) ∷ []))
+            (sym (h.entered.sees ∙ h.entered.history)) (prefix_self _);
+        placed = h.entered.placed;
+      };
+      old = old.core.state;
+      leaves = legal;
+      first = q.first;
+    }
 
 pub begins_then : (files : Catalog) (sizes : Sizes) (name : ℕ) (job : Task) (a b c : SeatSeen) (slip : Slip) → Begins files sizes name job a b slip → Goes b c
     → Begins files sizes name job a c slip

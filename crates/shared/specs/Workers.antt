@@ -25,6 +25,7 @@ use Rattle.machine.specs.Catalogs.{Catalog}
 use Rattle.pc_types.specs.declared.ids.FileId.{FileId}
 use Rattle.pc_types.specs.declared.kind.Kind.{Kind}
 use Rattle.pc_types.specs.declared.kind.Kind.TheVariants.{Flush}
+use Rattle.pc_types.specs.declared.refusal.Refusal.{Refusal}
 use Rattle.pc_types.specs.declared.refusal.Refusal.TheVariants.{TrailFull}
 use Rattle.ring.specs.Order.{Stands}
 use Rattle.ring.specs.Serving.{Carries, Serves}
@@ -131,6 +132,14 @@ pub record Begins (files : Catalog) (sizes : Sizes) (name : ℕ) (job : Task) (b
   pub first : IsFirstToWrite old file.0
   pub step : Step old (event.FlushBegin file) (reply.Job (record { 0 = job.serial })) new
   pub own : IsFlushJob new (Ok (flush.Job job))
+
+-- the seat's begin of such a write was refused, at the slip's entry
+pub record RefusesFirst (files : Catalog) (sizes : Sizes) (name : ℕ) (why : Refusal) (before after : SeatSeen) (slip : Slip) : Type 0 where
+  pub file : FileId
+  pub made : Makes before after slip (event.FlushBegin file) (reply.Refused why)
+  pub old : State
+  pub leaves : After files sizes name made.earlier old
+  pub first : IsFirstToWrite old file.0
 
 -- the end of a request
 abbrev pub IsEnd : Event → Type 0

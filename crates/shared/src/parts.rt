@@ -110,8 +110,8 @@ pub struct Unadopted<D, T> {
 }
 
 impl<D: BlockDevice, T: Trail> Parts<D, T> {
-    /// The parts of a cache of this name over a device that has the catalog's files, and so many seats. It reads nothing. `BadConfig`: no
-    /// seats or more than 64, or the catalog is for another block size or number of blocks. `Memory`. Either way all comes back.
+    /// The parts of a cache of this name over a device that has the catalog's files, and so many seats. It reads nothing, so an old catalog or
+    /// one of another device makes files of what stands there. `BadConfig`: no seats or more than 64, or the catalog is for another block size or number of blocks. `Memory`. Either way all comes back.
     #[tactic(auto, using(crate::proofs::Serving::idle_first))]
     pub fn over<R: Wait>(
         rt: &R,

@@ -19,7 +19,8 @@ use trail::Trail;
 
 impl<B: Naming, D: BlockDevice, T: Trail> SharedCache<B, D, T> {
     /// Where a page of a file stands on the device, and how many bytes of the block are the page's: 0 as long as no write of it has ended
-    /// well. `NoSuchFile`. Any page may be asked for. It is no event: the seat sees the history as it is.
+    /// well, and past the file's end those that a truncation cut off as well. `NoSuchFile`. Any page may be asked for. It is no event: the
+    /// seat sees the history as it is.
     #[tactic(auto, using(held::proofs::Seats::goes_shown, held::proofs::Seats::goes_same, held::proofs::Seats::only_same))]
     pub fn block_of<R: Wait>(
         &self,
@@ -44,7 +45,7 @@ impl<B: Naming, D: BlockDevice, T: Trail> SharedCache<B, D, T> {
 
     /// The files as they stand on the device. A page whose block was never written well is a hole in it. It is no event: the seat sees the
     /// history as it is. After an fsync of each file, and where none is written since, the catalog is all that a cache needs to begin with
-    /// these files on the same device. `Memory`. The state is locked for two look-ups a page that has a block.
+    /// these files on the same device; it doesn't tell whether that is so. `Memory`. The state is locked for two look-ups a page that has a block.
     #[tactic(auto, using(held::proofs::Seats::goes_shown, held::proofs::Seats::goes_same, held::proofs::Seats::only_same))]
     pub fn catalog<R: Wait>(&self, rt: &R, seat: &mut Seat) -> Result<Catalog, Refusal>
         requires seat { seat.old.name ≡ self.now.name → seat.old.table ≡ B.table }

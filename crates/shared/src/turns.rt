@@ -8,7 +8,7 @@ ghost use Rattle.held.specs.Called.{Goes, Only};
 ghost use Rattle.ring.specs.Order.{Stands};
 ghost use Rattle.shared.specs.Denials.{IsDenied, MadeOne};
 ghost use Rattle.shared.specs.Settled.{EndsOwn, IsBegun, IsEnded};
-ghost use Rattle.shared.specs.Workers.{AllCarried, Begins, Ends, FailsOf, FailsOwn, FindsNothing, IsEnd, IsEndOf, IsFlushBegin, IsFlushed, IsOfRequest, IsOwnFailure, IsWorkerOf, IsWriteBack, OnBegun, entered_in, company_of, popped_by, pushed_by, seat_of};
+ghost use Rattle.shared.specs.Workers.{AllCarried, Begins, Ends, FailsOf, FailsOwn, FindsNothing, IsEnd, IsEndOf, IsFlushBegin, IsFlushed, IsOfRequest, IsOwnFailure, IsWorkerOf, IsWriteBack, OnBegun, RefusesFirst, entered_in, company_of, popped_by, pushed_by, seat_of};
 
 use crate::cache::SharedCache;
 use crate::ends::{Done, carry_through};
@@ -81,6 +81,7 @@ impl<B: Naming, D: BlockDevice, T: Trail> SharedCache<B, D, T> {
         ensures file { IfOk result (λ f. FailsOf B.files B.sizes B.name (seat_of worker.new) f) }
         ensures denied { IfErr result (IsDenied B.files B.sizes B.name B.whole IsFlushBegin (seat_of worker.old) (seat_of worker.new)) }
         ensures unbegun { IfErr result (λ d. (pushed_by worker.new ≡ pushed_by worker.old) × MadeOne d.slip (seat_of worker.old) (seat_of worker.new)) }
+        ensures first { IfErr result (λ d. IfSome d.slip (RefusesFirst B.files B.sizes B.name d.refusal (seat_of worker.old) (seat_of worker.new))) }
     {
         let (job, slip) = match self.begin_flush(rt, &mut worker.seat) {
             Ok(Some(begun)) => begun,
@@ -97,7 +98,7 @@ impl<B: Naming, D: BlockDevice, T: Trail> SharedCache<B, D, T> {
     }
 
     /// Begins to write a page, of the first file that has one to write.
-    #[tactic(auto, using(held::proofs::Seats::goes_same, held::proofs::Seats::goes_on, held::proofs::Seats::goes_shown, held::proofs::Seats::only_any, crate::proofs::Finding::finds_nothing, crate::proofs::Ending::begins_first, crate::proofs::Ending::denied_begun, held::proofs::Seats::only_same, crate::proofs::Ending::begun_one, crate::proofs::Ending::unbegun, crate::proofs::Making::none_made, crate::proofs::Owning::only_begun, crate::proofs::Owning::only_begun_denied, crate::proofs::Carrying::begins_one, crate::proofs::Carrying::begins_none, crate::proofs::Settling::writes_begun))]
+    #[tactic(auto, using(held::proofs::Seats::goes_same, held::proofs::Seats::goes_on, held::proofs::Seats::goes_shown, held::proofs::Seats::only_any, crate::proofs::Finding::finds_nothing, crate::proofs::Ending::begins_first, crate::proofs::Ending::denied_begun, crate::proofs::Ending::refuses_first, held::proofs::Seats::only_same, crate::proofs::Ending::begun_one, crate::proofs::Ending::unbegun, crate::proofs::Making::none_made, crate::proofs::Owning::only_begun, crate::proofs::Owning::only_begun_denied, crate::proofs::Carrying::begins_one, crate::proofs::Carrying::begins_none, crate::proofs::Settling::writes_begun))]
     fn begin_flush<R: Wait>(
         &self,
         rt: &R,
@@ -114,6 +115,7 @@ impl<B: Naming, D: BlockDevice, T: Trail> SharedCache<B, D, T> {
         ensures fits { IfOk result (λ o. IfSome o (λ r. IsJobFor B.name B.sizes.blocks B.sizes.page r.0)) }
         ensures denied { IfErr result (IsDenied B.files B.sizes B.name B.whole IsFlushBegin seat.old seat.new) }
         ensures unbegun { IfErr result (λ d. MadeOne d.slip seat.old seat.new × Only (λ e. OnBegun (λ _. ⊥) e.event e.reply) seat.old seat.new) }
+        ensures first { IfErr result (λ d. IfSome d.slip (RefusesFirst B.files B.sizes B.name d.refusal seat.old seat.new)) }
     {
         let buffer = match Buffer::new(self.alloc, &self.geometry) {
             Ok(buffer) => buffer,
