@@ -1,2 +1,5 @@
+mod Cuts
+mod Files
+mod Others
 mod Values
 mod Writes

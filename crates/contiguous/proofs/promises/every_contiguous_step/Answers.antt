@@ -1,3 +1,5 @@
+use Rattle.contiguous.proofs.Cuts.{truncations_keep_the_extent, truncations_stay_contiguous}
+use Rattle.contiguous.proofs.Others.{others_keep_the_extent, others_stay_contiguous}
 use Rattle.contiguous.proofs.Writes.{appends_stay_contiguous, writes_stay_contiguous}
 use Rattle.contiguous.proofs.promises.every_contiguous_step.Goals as goal
 
@@ -6,3 +8,15 @@ returns-clause-writes c = writes_stay_contiguous
 
 pub returns-clause-appends : goal.returns-clause-appends
 returns-clause-appends c = appends_stay_contiguous
+
+pub returns-clause-cut : goal.returns-clause-cut
+returns-clause-cut c = truncations_keep_the_extent
+
+pub returns-clause-truncations : goal.returns-clause-truncations
+returns-clause-truncations c = truncations_stay_contiguous
+
+pub returns-clause-kept : goal.returns-clause-kept
+returns-clause-kept c = others_keep_the_extent
+
+pub returns-clause-others : goal.returns-clause-others
+returns-clause-others c = others_stay_contiguous
