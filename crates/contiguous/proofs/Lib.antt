@@ -1,5 +1,9 @@
+mod Begins
 mod Cuts
 mod Files
+mod Handles
+mod Histories
 mod Others
+mod Pages
 mod Values
 mod Writes

@@ -1,4 +1,6 @@
+use Rattle.contiguous.proofs.Begins.{catalogs_begin_contiguous, empty_begins_contiguous}
 use Rattle.contiguous.proofs.Cuts.{truncations_keep_the_extent, truncations_stay_contiguous}
+use Rattle.contiguous.proofs.Histories.{histories_stay_contiguous}
 use Rattle.contiguous.proofs.Others.{others_keep_the_extent, others_stay_contiguous}
 use Rattle.contiguous.proofs.Writes.{appends_stay_contiguous, writes_stay_contiguous}
 use Rattle.contiguous.proofs.promises.every_contiguous_step.Goals as goal
@@ -20,3 +22,12 @@ returns-clause-kept c = others_keep_the_extent
 
 pub returns-clause-others : goal.returns-clause-others
 returns-clause-others c = others_stay_contiguous
+
+pub returns-clause-begin : goal.returns-clause-begin
+returns-clause-begin c = catalogs_begin_contiguous
+
+pub returns-clause-empty : goal.returns-clause-empty
+returns-clause-empty c = empty_begins_contiguous
+
+pub returns-clause-histories : goal.returns-clause-histories
+returns-clause-histories c = histories_stay_contiguous
