@@ -1,5 +1,5 @@
 -- A cache begins contiguous: with one file that stands on the first blocks, or with none.
-use Rattle.std.proofs.Common.{◌≡◌, ℕ, zero, suc, ◌*◌, ◌+◌, ◌<◌, ◌≤◌, List, [], ◌∷◌, Bool, true, false, cond, refl, ap, sym, ◌∙◌}
+use Rattle.std.proofs.Common.{◌≡◌, ℕ, zero, suc, ◌<◌, Bool, true, false, cond, refl, ap, sym, ◌∙◌}
 use Rattle.std.proofs.Common.{arith, ◌&&◌, eqb, Option, Some, None, option_map, nat_cmp}
 use Rattle.std.specs.Prelude.{nat_lt, slice_index}
 use Rattle.std.specs.FinMap as finmap
@@ -7,9 +7,9 @@ use Rattle.std.specs.FinMap.{get-empty}
 use Rattle.std.proofs.lemmas.Bool.Decides.{nat_tests}
 use Rattle.pc_types.specs.Limits.{Sizes}
 use Rattle.pc_types.specs.Spots.{Spot, place_cmp}
-use Rattle.machine.specs.Catalogs.{Catalog, IsAdoptable, IsCatalog, adopted, no_catalog, size_in}
-use Rattle.machine.specs.State.{Request, block_at, spot_at}
-use Rattle.contiguous.specs.Contiguous.{IsContiguous, IsHeld}
+use Rattle.machine.specs.Catalogs.{Catalog, IsCatalog, adopted, no_catalog, size_in}
+use Rattle.machine.specs.State.{Request, block_at}
+use Rattle.contiguous.specs.Contiguous.{IsHeld}
 use Rattle.contiguous.specs.Promises.{CatalogsBeginContiguous, EmptyBeginsContiguous}
 
 none_in_flight : (sizes : Sizes) (name : ℕ) (catalog : Catalog) (n b : ℕ) → IsHeld (adopted sizes name catalog) b → b < n

@@ -1,12 +1,12 @@
 -- A truncation of the file: its extent ends where the file does, and what requests in flight hold they hold still.
-use Rattle.std.proofs.Common.{◌≡◌, ℕ, ◌<◌, ◌≤◌, Bool, true, false, cond, not, eqb, eqb-true, refl, ap, sym, subst, ◌∙◌}
-use Rattle.std.proofs.Common.{arith, inl, inr, min, ◌&&◌, ◌⊎◌, Option, Some, None, option_map}
+use Rattle.std.proofs.Common.{◌≡◌, ℕ, ◌<◌, Bool, true, false, cond, not, eqb, refl, ap, sym, subst, ◌∙◌}
+use Rattle.std.proofs.Common.{arith, inl, inr, min, ◌&&◌, Option, Some, None}
 use Rattle.std.specs.Prelude.{nat_lt, nat_le}
 use Rattle.std.specs.FinMap as finmap
 use Rattle.std.proofs.lemmas.Bool.Decides.{nat_tests}
 use Rattle.machine.specs.declared.event.Event.TheVariants as event
 use Rattle.machine.specs.declared.event.Reply.TheVariants as reply
-use Rattle.machine.specs.State.{State, Request, block_at, file_at, page_count}
+use Rattle.machine.specs.State.{State, Request, file_at, page_count}
 use Rattle.machine.specs.Changes.{cut_request, put_file, shrunk, truncated}
 use Rattle.machine.proofs.sound.Lookups.{block_at-shrunk, cut_off}
 use Rattle.machine.proofs.steps.Cases.{happened}
@@ -26,8 +26,7 @@ cut_holds f n x = go (eqb x.file f && nat_le n x.page)
 pub held_before : (s : State) (f z b : ℕ) → IsHeld (shrunk s f z) b → IsHeld s b
 held_before s f z b h =
     let was = mapped_some (cut_request f (page_count s.sizes.page z)) (finmap.get s.requests h.0) h.1
-    (sym (get-each_value (λ _. cut_request f (page_count s.sizes.page z)) s.requests h.0) ∙ h.2) in
-    (
+    (sym (get-each_value (λ _. cut_request f (page_count s.sizes.page z)) s.requests h.0) ∙ h.2) in (
       h.0,
       was.0,
       was.1,

@@ -1,16 +1,15 @@
 -- A file that is whole stays so, step by step, and over a legal history.
-use Rattle.std.proofs.Common.{◌≡◌, ℕ, ◌+◌, ◌-◌, ◌/◌, ◌<◌, ◌≤◌, Bool, true, false, cond, not, eqb, eqb-true, eq-eqb, List, []}
-use Rattle.std.proofs.Common.{◌∷◌, ◌++◌, length, refl, ap, sym, subst, ◌∙◌, arith, inl, inr, max, min, ◌&&◌, ◌⊎◌, Option}
-use Rattle.std.specs.Prelude.{nat_lt, nat_le}
+use Rattle.std.proofs.Common.{◌≡◌, ℕ, ◌+◌, ◌-◌, ◌/◌, ◌<◌, ◌≤◌, Bool, true, false, cond, eqb, eqb-true, List, []}
+use Rattle.std.proofs.Common.{◌∷◌, ◌++◌, length, refl, ap, sym, subst, ◌∙◌, arith, inl, inr, max, min}
+use Rattle.std.specs.Prelude.{nat_lt}
 use Rattle.std.proofs.lemmas.Bool.{false≢true}
 use Rattle.std.proofs.lemmas.Bool.Decides.{nat_tests}
-use Rattle.pc_types.specs.Limits.{Sizes}
 use Rattle.pc_types.specs.declared.ids.HandleId.{HandleId}
 use Rattle.machine.specs.declared.event.Event.{Event}
 use Rattle.machine.specs.declared.event.Event.TheVariants as event
 use Rattle.machine.specs.declared.event.Reply.{Reply}
 use Rattle.machine.specs.declared.event.Reply.TheVariants as reply
-use Rattle.machine.specs.Catalogs.{Catalog, IsCatalog, adopted}
+use Rattle.machine.specs.Catalogs.{adopted}
 use Rattle.machine.specs.Changes.{put_file, shrunk, truncated, written, written_pages}
 use Rattle.machine.specs.History.{Leads}
 use Rattle.machine.specs.Sound.{Sound}

@@ -1,12 +1,11 @@
 -- The events that write no bytes and don't truncate the file keep its extent and its size.
-use Rattle.std.proofs.Common.{◌≡◌, ℕ, ◌+◌, ◌<◌, ◌≤◌, Bool, true, false, cond, not, eqb, eqb-true, eq-eqb, ltb, List, []}
-use Rattle.std.proofs.Common.{◌∷◌, ◌++◌, length, get_or, refl, ap, sym, subst, ◌∙◌, arith, inl, inr, ◌&&◌, ◌⊎◌, Option}
+use Rattle.std.proofs.Common.{◌≡◌, ℕ, ◌+◌, ◌<◌, Bool, true, false, cond, not, eqb, eqb-true, List}
+use Rattle.std.proofs.Common.{length, refl, ap, sym, ◌∙◌, arith, inl, inr, ◌&&◌, ◌⊎◌, Option}
 use Rattle.std.proofs.Common.{Some, None, is_some, option_map}
 use Rattle.std.specs.Prelude.{nat_lt, nat_le, unwrap_or}
 use Rattle.std.specs.FinMap as finmap
 use Rattle.std.proofs.lemmas.Bool.{false≢true}
 use Rattle.std.proofs.lemmas.Bool.Decides.{nat_tests}
-use Rattle.std.proofs.lemmas.List.{set_past}
 use Rattle.pc_types.specs.Spots.{Spot}
 use Rattle.pc_types.specs.declared.ids.HandleId.{HandleId}
 use Rattle.pc_types.specs.declared.kind.Kind.{Kind}
@@ -16,16 +15,15 @@ use Rattle.machine.specs.declared.event.Reply.{Reply}
 use Rattle.machine.specs.declared.event.Reply.TheVariants as reply
 use Rattle.machine.specs.State.{State, File, Page, Request, Sync, block_at, file_at, handle_file, in_range, is_written}
 use Rattle.machine.specs.State.{no_file, page_at, page_count, spot_at, tags_of}
-use Rattle.machine.specs.Changes.{ended, flushed, is_left, put_file, requested, shrunk}
+use Rattle.machine.specs.Changes.{is_left, requested, shrunk}
 use Rattle.machine.specs.Sound.{Sound}
 use Rattle.machine.specs.Step.{Step}
-use Rattle.machine.proofs.changes.StateLaws.{file_at-put}
-use Rattle.machine.proofs.sound.Lookups.{block_at-shrunk, block_valid, cut_off, get_or-default}
+use Rattle.machine.proofs.sound.Lookups.{block_at-shrunk, block_valid, get_or-default}
 use Rattle.machine.proofs.steps.Answered.{IsWrite}
 use Rattle.machine.proofs.steps.Cases.{Cases, by_cases}
-use Rattle.machine.proofs.steps.Choices.{and_true, mapped_some, some_of}
+use Rattle.machine.proofs.steps.Choices.{and_true, some_of}
 use Rattle.maps.proofs.Maps.{get_inserted, get_left}
-use Rattle.contiguous.specs.Contiguous.{IsContiguous, IsHeld, IsOneExtent}
+use Rattle.contiguous.specs.Contiguous.{IsHeld, IsOneExtent}
 use Rattle.contiguous.specs.Promises.{KeepsTheExtent, OthersKeepTheExtent, OthersStayContiguous, changes_blocks}
 use Rattle.contiguous.proofs.Cuts.{held_before, still_contiguous}
 use Rattle.contiguous.proofs.Files.{size_of_other, same_size}
@@ -99,8 +97,12 @@ module _ (s : State) (ok : Sound s) (f n : ℕ) (is : IsOneExtent s f n) where
   ends_request t new e r spots requests size = record {
     keeps = λ _. record {
       extent = λ g q. spots g q ∙ is g q;
-      held = λ b h. inl (h.0, h.1,
-          (get_left s.requests t h.0 h.1 (sym (ap (λ m. finmap.get m h.0) requests) ∙ h.2)).1, h.3);
+      held = λ b h. inl (
+        h.0,
+        h.1,
+        (get_left s.requests t h.0 h.1 (sym (ap (λ m. finmap.get m h.0) requests) ∙ h.2)).1,
+        h.3,
+      );
     };
     size = λ _. size;
   }

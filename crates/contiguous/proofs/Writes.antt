@@ -1,6 +1,6 @@
 -- A write of a contiguous file that leaves no page out: each page that has no block takes the block of its own number.
 use Rattle.std.proofs.Common.{◌≡◌, ℕ, ◌+◌, ◌-◌, ◌/◌, ◌<◌, ◌≤◌, Bool, true, false, cond, not, eqb, eqb-true, eq-eqb, leb, ltb}
-use Rattle.std.proofs.Common.{List, [], length, get_or, refl, ap, sym, subst, ◌∙◌, arith, inl, inr, max, ◌&&◌, ◌||◌, ◌⊎◌}
+use Rattle.std.proofs.Common.{List, length, get_or, refl, ap, sym, subst, ◌∙◌, arith, inl, inr, max, ◌&&◌, ◌||◌, ◌⊎◌}
 use Rattle.std.proofs.Common.{Option, Some, None, is_some, option_map, nat_cmp}
 use Rattle.std.specs.Prelude.{nat_lt, nat_le}
 use Rattle.std.specs.Cmp.{nat_cmp_total}
@@ -14,22 +14,21 @@ use Rattle.pc_types.specs.Spots.{Spot, place_cmp}
 use Rattle.pc_types.specs.declared.ids.HandleId.{HandleId}
 use Rattle.machine.specs.declared.event.Event.{Event}
 use Rattle.machine.specs.declared.event.Event.TheVariants as event
-use Rattle.machine.specs.declared.event.Reply.{Reply}
 use Rattle.machine.specs.declared.event.Reply.TheVariants as reply
 use Rattle.machine.specs.State.{State, Request, file_at, handle_file, block_at, spot_at, has_block, free_blocks, touched}
-use Rattle.machine.specs.State.{touched_count, without_block, used_blocks}
+use Rattle.machine.specs.State.{touched_count, without_block}
 use Rattle.machine.specs.Changes.{written, changed}
 use Rattle.machine.specs.Step.{Step, MayReply}
 use Rattle.machine.specs.Tests.{tests}
 use Rattle.machine.proofs.changes.StateLaws.{is_free, any_block, free_of_spots, touches}
-use Rattle.machine.proofs.changes.ChangeLaws.{IsFree, needs_block, new_spot, taken_by, placed_places, takes_free}
+use Rattle.machine.proofs.changes.ChangeLaws.{needs_block, new_spot, taken_by, placed_places, takes_free}
 use Rattle.machine.proofs.steps.Answered.{IsWrite, answers}
 use Rattle.machine.proofs.steps.Cases.{answered}
 use Rattle.machine.proofs.steps.Choices.{and_true, mapped_some}
 use Rattle.machine.proofs.steps.Passed.{MayWrite, may_write}
 use Rattle.maps.proofs.Kept.{kept_below, kept_from, kept_within}
 use Rattle.maps.proofs.MapLaws.{places_total, places_antisymmetric}
-use Rattle.contiguous.specs.Contiguous.{IsContiguous, IsHeld}
+use Rattle.contiguous.specs.Contiguous.{IsContiguous}
 use Rattle.contiguous.specs.Promises.{AppendsStayContiguous, WritesStayContiguous, reached}
 use Rattle.contiguous.proofs.Values.{no_value}
 
@@ -112,9 +111,9 @@ module _ (s : State) (f n : ℕ) (is : IsContiguous s f n) where
     takes_own : (p : ℕ) → n ≤ p → p < first + count → n ≤ s.sizes.blocks → taken_by s f first p ≡ p
     takes_own p h m fits =
         let within = kept_within (λ q. not (has_block s f q)) first count p (omega arith) m
-            (lacks p ∙ (let e : leb n p ≡ true = grind (arith, nat_tests) in e)) in
+        (lacks p ∙ (let e : leb n p ≡ true = grind (arith, nat_tests) in e)) in
         let all : length (free_blocks s) ≡ s.sizes.blocks - n = ap length (free_list fits)
-            ∙ length-range_with_len n (s.sizes.blocks - n) in
+        ∙ length-range_with_len n (s.sizes.blocks - n) in
         let short = before p h in
         let inside : p - n < s.sizes.blocks - n = omega arith in
         (λ i. get_or (free_list fits i) (before p h i) 0)

@@ -1,7 +1,7 @@
 -- What each event makes of a contiguous file. Any program may read the device as the file while it is contiguous to its end.
 --
 -- f is the file, n and m are how many pages of it have blocks.
-use Rattle.std.specs.Prelude.{◌≡◌, ℕ, ◌+◌, ◌-◌, ◌/◌, ◌<◌, ◌≤◌, ◌⊎◌, Bool, true, false, ◌==◌, nat_lt, if◌then◌else◌, not}
+use Rattle.std.specs.Prelude.{◌≡◌, ℕ, ◌+◌, ◌-◌, ◌/◌, ◌<◌, ◌≤◌, ◌⊎◌, Bool, false, ◌==◌, nat_lt, if◌then◌else◌, not}
 use Rattle.std.specs.Prelude.{List, [], ◌∷◌, ◌++◌, Some, None, option_map, min, max}
 use Rattle.std.specs.FinMap as map
 use Rattle.pc_types.specs.Limits.{Sizes}
@@ -10,7 +10,7 @@ use Rattle.machine.specs.declared.event.Event.{Event}
 use Rattle.machine.specs.declared.event.Event.TheVariants as event
 use Rattle.machine.specs.declared.event.Reply.{Reply}
 use Rattle.machine.specs.declared.event.Reply.TheVariants as reply
-use Rattle.machine.specs.Catalogs.{Catalog, IsCatalog, adopted, size_in}
+use Rattle.machine.specs.Catalogs.{Catalog, IsCatalog, adopted}
 use Rattle.machine.specs.History.{AfterFiles, no_files}
 use Rattle.machine.specs.Sound.{Sound}
 use Rattle.machine.specs.State.{State, file_at, handle_file, page_count}
