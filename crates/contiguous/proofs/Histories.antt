@@ -1,5 +1,5 @@
 -- A file that is whole stays so, step by step, and over a legal history.
-use Rattle.std.proofs.Common.{◌≡◌, ℕ, ◌+◌, ◌-◌, ◌/◌, ◌<◌, ◌≤◌, Bool, true, false, cond, eqb, eqb-true, List, []}
+use Rattle.std.proofs.Common.{not, ◌≡◌, ℕ, ◌+◌, ◌<◌, ◌≤◌, Bool, true, false, cond, eqb, eqb-true, List, []}
 use Rattle.std.proofs.Common.{◌∷◌, ◌++◌, length, refl, ap, sym, subst, ◌∙◌, arith, inl, inr, max, min}
 use Rattle.std.specs.Prelude.{nat_lt}
 use Rattle.std.proofs.lemmas.Bool.{false≢true}
@@ -18,17 +18,17 @@ use Rattle.machine.specs.Step.{Step}
 use Rattle.machine.proofs.changes.ChangeLaws.{cut_pages}
 use Rattle.machine.proofs.changes.StateLaws.{file_at-here}
 use Rattle.machine.proofs.sound.Steps.{histories_are_sound, steps_stay_sound}
-use Rattle.machine.proofs.steps.Answered.{IsWrite}
 use Rattle.machine.proofs.steps.Cases.{happened}
 use Rattle.machine.proofs.steps.Passed.{may_truncate}
 use Rattle.machine.proofs.steps.Steady.{steady}
 use Rattle.contiguous.specs.Contiguous.{IsContiguous, IsHeld}
-use Rattle.contiguous.specs.Promises.{Fits, HistoriesStayContiguous, IsWhole, changes_blocks, left, reached}
+use Rattle.contiguous.specs.Promises.{Fits, LeavesNoneOut, HistoriesStayContiguous, IsWhole, changes_blocks, left, reached}
 use Rattle.contiguous.proofs.Cuts.{truncations_stay_contiguous}
 use Rattle.contiguous.proofs.Handles.{FilesAreThere, file_there, none_open, still_there}
 use Rattle.contiguous.proofs.Others.{others_size, others_stay_contiguous}
 use Rattle.contiguous.proofs.Pages.{end_page, max_pages, pages_grow, pages_to}
-use Rattle.contiguous.proofs.Writes.{wrote, writes_contiguous}
+use Rattle.contiguous.proofs.Writes.{is_zero_or_more, reached_some, writes_stay_contiguous}
+use Rattle.contiguous.proofs.Wrote.{WroteBytes, none_out, wrote_none, wrote_some}
 
 module _ (s : State) (f : ℕ) (there : FilesAreThere s) (ok : Sound s) (pos : 0 < s.sizes.page) (whole : IsWhole s f) where
   abbrev P : ℕ
@@ -51,28 +51,31 @@ module _ (s : State) (f : ℕ) (there : FilesAreThere s) (ok : Sound s) (pos : 0
     pages = written_pages P o b (file_at s f).pages;
   }
 
-  wrote_whole : (new : State) (e : Event) (h : HandleId) (o count end : ℕ) (b : List ℕ) → IsWrite s e h o b
-      → Step s e (reply.Wrote count end) new → handle_file s h.0 ≡ f → o / P ≤ page_count P z → IsWhole new f
-  wrote_whole new e h o count end b w step of first =
-      is_whole new (reached P (page_count P z) o count) (steady s e (reply.Wrote count end) new step).sizes
-      (writes_contiguous s new e f (page_count P z) h o count end b w step of first whole)
-      (elim (wrote s new e h o count end b w step) [
-        | inl a ↦ ap (reached P (page_count P z) o) a.0 ∙ ap (λ x. page_count P (file_at x f).size) (sym a.1)
-        | inr a ↦ some count (length b) a.0 a.1.some
-            ∙ ap (page_count P) (sym (ap (λ x. (file_at x f).size) (a.2 ∙ ap (λ g. written s g o b) of)
-            ∙ ap (λ (x : File). x.size) (file_at-here s f (after_write o b)
-            (subst (λ g. g < length s.files) of (file_there s there h.0 a.1.opened)))))
+  wrote_whole : (new : State) (e : Event) (count end : ℕ) → Step s e (reply.Wrote count end) new
+      → LeavesNoneOut s f (page_count P z) e → IsWhole new f
+  wrote_whole new e count end step fits =
+      is_whole new (reached P (page_count P z) count end) (steady s e (reply.Wrote count end) new step).sizes
+      (writes_stay_contiguous s new f (page_count P z) count end e step fits whole)
+      (elim (is_zero_or_more count) [
+        | inl k ↦ ap (λ c. reached P (page_count P z) c end) k
+            ∙ ap (λ x. page_count P (file_at x f).size)
+            (sym (wrote_none s e end new (subst (λ c. Step s e (reply.Wrote c end) new) k step)))
+        | inr l ↦ some (wrote_some s e count end new step l) l
       ])
     where
-      some : (c k : ℕ) → c ≡ k → 0 < k → reached P (page_count P z) o c ≡ page_count P (max z (o + k))
-      some c k e positive = ap (reached P (page_count P z) o) e ∙ go (eqb k 0) refl
-          ∙ max_pages P z (o + k) pos
-        where
-          go : (t : Bool) → eqb k 0 ≡ t
-              → cond t (page_count P z) (max (page_count P z) ((o + k - 1) / P + 1))
-              ≡ max (page_count P z) (page_count P (o + k))
-          go true t = absurd (let none : k ≡ 0 = eqb-true k 0 t in omega arith)
-          go false t = ap (max (page_count P z)) (pages_to P (o + k) pos (omega arith))
+      some : WroteBytes s e count end new → 0 < count
+          → reached P (page_count P z) count end ≡ page_count P (file_at new f).size
+      some w l =
+          let of = (none_out s f (page_count P z) e w.handle w.at w.bytes w.is fits).0 in
+          let bytes : 0 < length w.bytes = w.may.some in
+          let ends = w.ends in
+          reached_some P (page_count P z) count end l
+          ∙ ap (max (page_count P z)) (pages_to P end pos (let h : 0 < end = omega arith in h)
+          ∙ ap (page_count P) ends)
+          ∙ max_pages P z (w.at + length w.bytes) pos
+          ∙ ap (page_count P) (sym (ap (λ x. (file_at x f).size) (w.becomes ∙ ap (λ g. written s g w.at w.bytes) of)
+          ∙ ap (λ (x : File). x.size) (file_at-here s f (after_write w.at w.bytes)
+          (subst (λ g. g < length s.files) of (file_there s there w.handle.0 w.may.opened)))))
 
   -- ---- a truncation
 
@@ -106,19 +109,21 @@ module _ (s : State) (f : ℕ) (there : FilesAreThere s) (ok : Sound s) (pos : 0
 
   -- ---- each event
 
-  changed_whole : (e : Event) (r : Reply) (new : State) → changes_blocks s f e r ≡ true → Step s e r new → Fits f s e
+  some : (count : ℕ) → not (eqb count 0) ≡ true → 0 < count
+  some count t = grind (arith, nat_tests)
+
+  changed_whole : (e : Event) (r : Reply) (new : State) → changes_blocks s f e r ≡ true → Step s e r new → Fits f s e r
       → IsWhole new f
   changed_whole (event.Write h o b) (reply.Wrote count end) new t step fits =
-      wrote_whole new (event.Write h o b) h o count end b (inl refl) step fits.0 fits.1
+      wrote_whole new (event.Write h o b) count end step (fits (some count t))
   changed_whole (event.Append h b) (reply.Wrote count end) new t step fits =
-      wrote_whole new (event.Append h b) h z count end b
-      (inr (refl, ap (λ g. (file_at s g).size) (sym fits))) step fits (end_page P z pos)
+      wrote_whole new (event.Append h b) count end step (fits (some count t), end_page P z pos)
   changed_whole (event.Truncate h y) reply.Done new t step fits =
       let of : handle_file s h.0 ≡ f = eqb-true (handle_file s h.0) f t in
       let may = fits of in cut_whole new h y step of may.0 may.1
   changed_whole e r new t step fits = absurd (false≢true t)
 
-  pub stays_whole : (e : Event) (r : Reply) (new : State) → Step s e r new → Fits f s e → IsWhole new f
+  pub stays_whole : (e : Event) (r : Reply) (new : State) → Step s e r new → Fits f s e r → IsWhole new f
   stays_whole e r new step fits = go (changes_blocks s f e r) refl
     where
       go : (b : Bool) → changes_blocks s f e r ≡ b → IsWhole new f
@@ -132,7 +137,7 @@ module _ (s : State) (f : ℕ) (there : FilesAreThere s) (ok : Sound s) (pos : 0
 leads_whole : (f : ℕ) (old : State) (es : List (Event × Reply)) (new : State) → FilesAreThere old → Sound old
     → 0 < old.sizes.page → IsWhole old f → Leads old es new
     → ((before after : List (Event × Reply)) (e : Event × Reply) (s : State) → es ≡ before ++ e ∷ after
-    → Leads old before s → Fits f s e.0) → IsWhole new f
+    → Leads old before s → Fits f s e.0 e.1) → IsWhole new f
 leads_whole f old [] new there ok pos whole leads fits = subst (λ s. IsWhole s f) (sym leads) whole
 leads_whole f old (e ∷ es) new there ok pos whole leads fits =
     leads_whole f leads.0 es new (still_there old there e.0 e.1 leads.0 leads.1)

@@ -27,6 +27,7 @@ use Rattle.contiguous.specs.Contiguous.{IsHeld, IsOneExtent}
 use Rattle.contiguous.specs.Promises.{KeepsTheExtent, OthersKeepTheExtent, OthersStayContiguous, changes_blocks}
 use Rattle.contiguous.proofs.Cuts.{held_before, still_contiguous}
 use Rattle.contiguous.proofs.Files.{size_of_other, same_size}
+use Rattle.contiguous.proofs.FreeBlocks.{below}
 
 -- a write of bytes is none of these events
 wrote_bytes : (s : State) (f : ℕ) (e : Event) (h : HandleId) (o : ℕ) (b : List ℕ) (end : ℕ) → IsWrite s e h o b
@@ -56,16 +57,7 @@ module _ (s : State) (ok : Sound s) (f n : ℕ) (is : IsOneExtent s f n) where
     size = λ _. size;
   }
 
-  -- the page has one of the file's blocks
-  below : (g p k : ℕ) → block_at s g p ≡ Some k → k < n
-  below g p k e = go (eqb g f) (nat_lt p n) refl (sym (is g p) ∙ e)
-    where
-      go : (a b : Bool) → nat_lt p n ≡ b → cond (a && b) (Some p) None ≡ Some k → k < n
-      go true true l j = let same : p ≡ k = cc in let less : p < n = grind (arith, nat_tests) in omega arith
-      go true false l j = absurd cc
-      go false b l j = absurd cc
-
-  -- a request of such a page begins
+  -- a request begins, of a page that has a block
   begins_request : (kind : Kind) (g p : ℕ) (new : State) → is_some (block_at s g p) ≡ true → (e : Event) (r : Reply)
       → new.spots ≡ s.spots → new.requests ≡ (requested s kind g p).requests
       → (file_at new f).size ≡ (file_at s f).size → After e r new
@@ -86,7 +78,7 @@ module _ (s : State) (ok : Sound s) (f n : ℕ) (is : IsOneExtent s f n) where
         | inl k ↦ inr (let same : Some x ≡ Some y = sym k.1 ∙ at in let one : x ≡ y = cc in
             let o = some_of (block_at s g p) has in
             let it : o.0 ≡ b = sym (ap (λ z. unwrap_or z 0) o.1) ∙ ap (λ (z : Request). z.block) one ∙ of in
-            below g p b (o.1 ∙ ap Some it))
+            below s f n is g p b (o.1 ∙ ap Some it))
         | inr k ↦ inl (t, y, sym k.1 ∙ at, of)
       ]
 

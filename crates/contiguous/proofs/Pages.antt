@@ -4,7 +4,7 @@ use Rattle.std.proofs.Math.Nat.{add-div_left, div-mul-le_self}
 use Rattle.std.proofs.lemmas.Nat.{le-div}
 use Rattle.machine.specs.State.{page_count}
 
-div_grows : (P y z : ℕ) → 0 < P → y ≤ z → y / P ≤ z / P
+pub div_grows : (P y z : ℕ) → 0 < P → y ≤ z → y / P ≤ z / P
 div_grows P y z pos h = le-div (y / P) z P pos (let low = div-mul-le_self y P in omega arith)
 
 -- the pages up to the last byte of a file that ends at e

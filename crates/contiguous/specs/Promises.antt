@@ -19,23 +19,27 @@ use Rattle.contiguous.specs.Contiguous.{IsContiguous, IsHeld, IsOneExtent}
 
 -- ---- a write, an append
 
--- how many pages have blocks after count bytes at o: those up to the last page that they touch, or as many as before
+-- the event writes to f, and leaves no page out: the first page that it touches is at most the one behind the last that has a block
+abbrev pub LeavesNoneOut : State → ℕ → ℕ → Event → Type 0
+LeavesNoneOut s f n (event.Write h o b) = (handle_file s h.0 ≡ f) × (o / s.sizes.page ≤ n)
+LeavesNoneOut s f n (event.Append h b) = (handle_file s h.0 ≡ f) × ((file_at s f).size / s.sizes.page ≤ n)
+LeavesNoneOut s f n e = ⊥
+
+-- how many pages have blocks after count bytes, of which the last is before end: those up to its page, or as many as before
 abbrev pub reached : ℕ → ℕ → ℕ → ℕ → ℕ
-reached P n o count = if count == 0 then n else max n ((o + count - 1) / P + 1)
+reached P n count end = if count == 0 then n else max n ((end - 1) / P + 1)
 
--- a write that leaves no page out: the first page that it touches is at most the one behind the last that has a block
+-- a write or an append: what goes behind the last page lands behind the last block
 abbrev pub WritesStayContiguous : Type 0
-WritesStayContiguous = (old new : State) (f n : ℕ) (h : HandleId) (o count end : ℕ) (b : List ℕ)
-    → Step old (event.Write h o b) (reply.Wrote count end) new
-    → handle_file old h.0 ≡ f → o / old.sizes.page ≤ n → IsContiguous old f n
-    → IsContiguous new f (reached old.sizes.page n o count)
+WritesStayContiguous = (old new : State) (f n count end : ℕ) (e : Event)
+    → Step old e (reply.Wrote count end) new → LeavesNoneOut old f n e → IsContiguous old f n
+    → IsContiguous new f (reached old.sizes.page n count end)
 
--- and such an append. Where each page of the file has a block, there is no other (`page_count`)
-abbrev pub AppendsStayContiguous : Type 0
-AppendsStayContiguous = (old new : State) (f n : ℕ) (h : HandleId) (count end : ℕ) (b : List ℕ)
-    → Step old (event.Append h b) (reply.Wrote count end) new
-    → handle_file old h.0 ≡ f → (file_at old f).size / old.sizes.page ≤ n → IsContiguous old f n
-    → IsContiguous new f (reached old.sizes.page n (file_at old f).size count)
+-- and no other write of bytes leaves the file one extent, of however many pages
+abbrev pub OnlySuchWrites : Type 0
+OnlySuchWrites = (old new : State) (f n m count end : ℕ) (e : Event)
+    → Step old e (reply.Wrote count end) new → 0 < count → 0 < old.sizes.page → IsContiguous old f n
+    → IsOneExtent new f m → LeavesNoneOut old f n e
 
 -- ---- a truncation, and every other event
 
@@ -60,7 +64,7 @@ TruncationsStayContiguous = (old new : State) (f n : ℕ) (h : HandleId) (z : �
     → Step old (event.Truncate h z) reply.Done new → handle_file old h.0 ≡ f → IsContiguous old f n
     → ((b : ℕ) → IsHeld old b → b < left old f n z) → IsContiguous new f (left old f n z)
 
--- whether the event wrote bytes to a file, or truncated f. Bytes that are written to another file take a block
+-- whether the event wrote bytes to a file, or truncated f
 abbrev pub changes_blocks : State → ℕ → Event → Reply → Bool
 changes_blocks s f (event.Write h o b) (reply.Wrote count end) = not (count == 0)
 changes_blocks s f (event.Append h b) (reply.Wrote count end) = not (count == 0)
@@ -96,16 +100,16 @@ EmptyBeginsContiguous = (sizes : Sizes) (name f : ℕ) → IsContiguous (no_file
 abbrev pub IsWhole : State → ℕ → Type 0
 IsWhole s f = IsContiguous s f (page_count s.sizes.page (file_at s f).size)
 
--- what an event may be, so that f stays whole. A write is of f, and leaves no page out: it may begin anywhere in the file, and up to
--- a page behind it. A truncation of f adds no page, and cuts no block off that a request in flight holds
-abbrev pub Fits : ℕ → State → Event → Type 0
-Fits f s (event.Write h o b) =
-    (handle_file s h.0 ≡ f) × (o / s.sizes.page ≤ page_count s.sizes.page (file_at s f).size)
-Fits f s (event.Append h b) = handle_file s h.0 ≡ f
-Fits f s (event.Truncate h z) = handle_file s h.0 ≡ f
+-- what may happen, so that f stays whole. Bytes are written to f alone, and no page is left out: a write may begin anywhere in the
+-- file, and in the page behind it. A truncation of f adds no page, and cuts no block off that a request in flight holds
+abbrev pub Fits : ℕ → State → Event → Reply → Type 0
+Fits f s (event.Write h o b) (reply.Wrote count end) =
+    0 < count → LeavesNoneOut s f (page_count s.sizes.page (file_at s f).size) (event.Write h o b)
+Fits f s (event.Append h b) (reply.Wrote count end) = 0 < count → handle_file s h.0 ≡ f
+Fits f s (event.Truncate h z) reply.Done = handle_file s h.0 ≡ f
     → (page_count s.sizes.page z ≤ page_count s.sizes.page (file_at s f).size)
     × ((b : ℕ) → IsHeld s b → b < page_count s.sizes.page z)
-Fits f s e = Unit {0}
+Fits f s e r = Unit {0}
 
 -- after every legal history of such events, each in the state that it comes in
 abbrev pub HistoriesStayContiguous : Type 0
@@ -113,5 +117,5 @@ HistoriesStayContiguous = (catalog : Catalog) (sizes : Sizes) (name f : ℕ) (es
     → 0 < sizes.page → IsCatalog sizes catalog → IsWhole (adopted sizes name catalog) f
     → AfterFiles catalog sizes name es new
     → ((before after : List (Event × Reply)) (e : Event × Reply) (s : State)
-    → es ≡ before ++ e ∷ after → AfterFiles catalog sizes name before s → Fits f s e.0)
+    → es ≡ before ++ e ∷ after → AfterFiles catalog sizes name before s → Fits f s e.0 e.1)
     → IsWhole new f

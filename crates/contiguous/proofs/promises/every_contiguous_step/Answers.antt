@@ -2,14 +2,15 @@ use Rattle.contiguous.proofs.Begins.{catalogs_begin_contiguous, empty_begins_con
 use Rattle.contiguous.proofs.Cuts.{truncations_keep_the_extent, truncations_stay_contiguous}
 use Rattle.contiguous.proofs.Histories.{histories_stay_contiguous}
 use Rattle.contiguous.proofs.Others.{others_keep_the_extent, others_stay_contiguous}
-use Rattle.contiguous.proofs.Writes.{appends_stay_contiguous, writes_stay_contiguous}
+use Rattle.contiguous.proofs.Only.{only_such_writes}
+use Rattle.contiguous.proofs.Writes.{writes_stay_contiguous}
 use Rattle.contiguous.proofs.promises.every_contiguous_step.Goals as goal
 
 pub returns-clause-writes : goal.returns-clause-writes
 returns-clause-writes c = writes_stay_contiguous
 
-pub returns-clause-appends : goal.returns-clause-appends
-returns-clause-appends c = appends_stay_contiguous
+pub returns-clause-only : goal.returns-clause-only
+returns-clause-only c = only_such_writes
 
 pub returns-clause-cut : goal.returns-clause-cut
 returns-clause-cut c = truncations_keep_the_extent
