@@ -1,0 +1,12 @@
+mod Begins
+mod Cuts
+mod Files
+mod FreeBlocks
+mod Handles
+mod Histories
+mod Only
+mod Others
+mod Pages
+mod Values
+mod Writes
+mod Wrote
