@@ -6,6 +6,8 @@
 #[cfg(test)]
 mod checks;
 #[cfg(test)]
+mod seat_tests;
+#[cfg(test)]
 mod tests;
 #[cfg(test)]
 mod trail_tests;

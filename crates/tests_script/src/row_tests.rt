@@ -162,6 +162,31 @@ fn requests_outlive_the_pages_that_are_cut_off(rt: HostRuntime) -> Result<(), Fa
     )
 }
 
+/// A page that is cut off while its write is in flight: a sync no longer waits for the write, whose end changes nothing.
+#[test]
+fn a_write_outlives_its_page(rt: HostRuntime) -> Result<(), Fail> {
+    let alloc = rt.alloc();
+    check_row(
+        &rt,
+        alloc,
+        "write 0 0 aa  wrote 1
+        flush 0       job 0
+        write 0 0 bb  wrote 1
+        sync 0        sync 0
+        step 0        wait 0
+        evict         none
+        flush 0       nothing
+        truncate 0 0  ok
+        step 0        clean
+        write 0 0 cc  wrote 1
+        end 0         refused 15
+        do 0          done
+        do 0          refused 15
+        end 0         dropped
+        read 0 0 1    bytes cc",
+    )
+}
+
 /// A block that was cut is reused as soon as its request has ended, by a page of its own.
 #[test]
 fn a_cut_block_is_used_again(rt: HostRuntime) -> Result<(), Fail> {
