@@ -175,12 +175,15 @@ impl<D: BlockDevice, T: Trail> Parts<D, T> {
                 };
                 Ok((parts, seats))
             }
-            Err((refusal, catalog, trail)) => Err(Unadopted {
-                refusal,
-                catalog,
-                device,
-                trail,
-            }),
+            Err((refusal, catalog, trail)) => {
+                let unadopted = Unadopted {
+                    refusal,
+                    catalog,
+                    device,
+                    trail,
+                };
+                Err(unadopted)
+            }
         }
     }
 }
