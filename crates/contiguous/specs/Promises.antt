@@ -1,4 +1,4 @@
--- What each event makes of a contiguous file. Any program may read the device as the file while it is contiguous to its end.
+-- What each event makes of a contiguous file. Of its bytes nothing is said: which of a page's bytes the device has, `runs` says.
 --
 -- f is the file, n and m are how many pages of it have blocks.
 use Rattle.std.specs.Prelude.{◌≡◌, ℕ, ◌+◌, ◌-◌, ◌/◌, ◌<◌, ◌≤◌, ◌⊎◌, Bool, false, ◌==◌, nat_lt, if◌then◌else◌, not}
@@ -48,7 +48,7 @@ pub record KeepsTheExtent (old new : State) (f m : ℕ) : Type 0 where
   pub extent : IsOneExtent new f m
   pub held : (b : ℕ) → IsHeld new b → IsHeld old b ⊎ (b < m)
 
--- how many pages have blocks after a truncation to z. One that makes the file longer leaves holes
+-- how many pages have blocks after a truncation to z. The pages that it adds are holes
 abbrev pub left : State → ℕ → ℕ → ℕ → ℕ
 left s f n z = if nat_lt z (file_at s f).size then min n (page_count s.sizes.page z) else n
 
@@ -71,7 +71,7 @@ changes_blocks s f (event.Append h b) (reply.Wrote count end) = not (count == 0)
 changes_blocks s f (event.Truncate h z) reply.Done = handle_file s h.0 == f
 changes_blocks s f e r = false
 
--- every other event, with any reply. After a truncation blocks that are held beside the extent are given back as their requests end
+-- every other event, with any reply. Blocks that are held beside the extent after a truncation are given back as their requests end
 abbrev pub OthersKeepTheExtent : Type 0
 OthersKeepTheExtent = (old new : State) (f n : ℕ) (e : Event) (r : Reply)
     → Step old e r new → changes_blocks old f e r ≡ false → Sound old → IsOneExtent old f n
