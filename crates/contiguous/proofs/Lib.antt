@@ -1,4 +1,5 @@
 mod Begins
+mod Bytes
 mod Cuts
 mod Files
 mod FreeBlocks

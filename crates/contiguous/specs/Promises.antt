@@ -1,4 +1,4 @@
--- What each event makes of a contiguous file. Of its bytes nothing is said: which of a page's bytes the device has, `runs` says.
+-- What each event makes of a contiguous file. Of its bytes `Bytes` speaks.
 --
 -- f is the file, n and m are how many pages of it have blocks.
 use Rattle.std.specs.Prelude.{◌≡◌, ℕ, ◌+◌, ◌-◌, ◌/◌, ◌<◌, ◌≤◌, ◌⊎◌, Bool, false, ◌==◌, nat_lt, if◌then◌else◌, not}

@@ -1,5 +1,6 @@
 //! What holds of a contiguous file over every step, and over every history.
 
+ghost use Rattle.contiguous.specs.Bytes.{BytesAreInPlace};
 ghost use Rattle.contiguous.specs.Promises.{CatalogsBeginContiguous, EmptyBeginsContiguous, HistoriesStayContiguous, OnlySuchWrites, OthersKeepTheExtent, OthersStayContiguous, TruncationsKeepTheExtent, TruncationsStayContiguous, WritesStayContiguous};
 
 /// What holds of a contiguous file over every step of the machine, and over every history that leaves no page of it out.
@@ -13,4 +14,5 @@ pub fn every_contiguous_step()
     ensures begin { CatalogsBeginContiguous }
     ensures empty { EmptyBeginsContiguous }
     ensures histories { HistoriesStayContiguous }
+    ensures bytes { BytesAreInPlace }
 {}

@@ -1,4 +1,5 @@
 use Rattle.contiguous.proofs.Begins.{catalogs_begin_contiguous, empty_begins_contiguous}
+use Rattle.contiguous.proofs.Bytes.{bytes_are_in_place}
 use Rattle.contiguous.proofs.Cuts.{truncations_keep_the_extent, truncations_stay_contiguous}
 use Rattle.contiguous.proofs.Histories.{histories_stay_contiguous}
 use Rattle.contiguous.proofs.Others.{others_keep_the_extent, others_stay_contiguous}
@@ -32,3 +33,6 @@ returns-clause-empty c = empty_begins_contiguous
 
 pub returns-clause-histories : goal.returns-clause-histories
 returns-clause-histories c = histories_stay_contiguous
+
+pub returns-clause-bytes : goal.returns-clause-bytes
+returns-clause-bytes c = bytes_are_in_place
