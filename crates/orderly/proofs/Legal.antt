@@ -1,5 +1,5 @@
 -- What a legal history leaves.
-use Rattle.std.proofs.Common.{◌≡◌, ℕ, List, [], ◌∷◌, refl, subst, sym, ◌∙◌, arith}
+use Rattle.std.proofs.Common.{◌≡◌, ℕ, List, [], ◌∷◌, ap, refl, subst, sym, ◌∙◌, arith}
 use Rattle.std.specs.Prelude.{IsTrue}
 use Rattle.pc_types.specs.Limits.{Sizes, is_geometry}
 use Rattle.machine.specs.Catalogs.{Catalog, IsCatalog, adopted, size_in}

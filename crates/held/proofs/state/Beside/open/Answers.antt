@@ -4,4 +4,4 @@ use Rattle.held.proofs.state.Beside.open.Goals as goal
 
 pub invariant_of-opened : goal.invariant_of-opened
 invariant_of-opened g c =
-    let f = c.requires.fresh in (f.1.0, opens _ _ f.1.0 f.0 c.args.name f.1.1.0 (search rules) f.1.1.1 (search rules))
+    let f = c.requires.fresh in (f.1, opens _ _ f.1 f.0 c.args.name f.2 (search rules) f.3 (search rules))
