@@ -9,6 +9,7 @@ use Rattle.cachecore.specs.Core.{Core}
 use Rattle.machine.specs.declared.event.Event.TheVariants as event
 use Rattle.machine.specs.declared.event.Reply.TheVariants as reply
 use Rattle.cachecore.specs.Replies.{sync_dropped}
+use Rattle.machine.specs.Catalogs.{Catalog}
 use Rattle.machine.specs.State.{State}
 use Rattle.machine.specs.Step.{Step}
 use Rattle.machine.specs.Tests.{tests}

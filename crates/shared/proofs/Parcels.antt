@@ -29,11 +29,11 @@ pub same_pushed : (v w : Log) (p : ParcelSeen) → w ≡ with_popped v p
 same_pushed v w p on = ap (λ (x : Log). map job_of x.pushed) on
 
 -- no step but the making of a pass changes what passes there are
-pub beside_same : (v w : Log) → w ≡ v → (w.alone, (w.made, w.depth)) ≡ (v.alone, (v.made, v.depth))
-beside_same v w on = ap (λ (x : Log). (x.alone, (x.made, x.depth))) on
+pub beside_same : (v w : Log) → w ≡ v → (w.alone, w.made, w.depth) ≡ (v.alone, v.made, v.depth)
+beside_same v w on = ap (λ (x : Log). (x.alone, x.made, x.depth)) on
 
-pub beside_pushed : (v w : Log) (p : ParcelSeen) → w ≡ with_pushed v p → (w.alone, (w.made, w.depth)) ≡ (v.alone, (v.made, v.depth))
-beside_pushed v w p on = ap (λ (x : Log). (x.alone, (x.made, x.depth))) on
+pub beside_pushed : (v w : Log) (p : ParcelSeen) → w ≡ with_pushed v p → (w.alone, w.made, w.depth) ≡ (v.alone, v.made, v.depth)
+beside_pushed v w p on = ap (λ (x : Log). (x.alone, x.made, x.depth)) on
 
-pub beside_popped : (v w : Log) (p : ParcelSeen) → w ≡ with_popped v p → (w.alone, (w.made, w.depth)) ≡ (v.alone, (v.made, v.depth))
-beside_popped v w p on = ap (λ (x : Log). (x.alone, (x.made, x.depth))) on
+pub beside_popped : (v w : Log) (p : ParcelSeen) → w ≡ with_popped v p → (w.alone, w.made, w.depth) ≡ (v.alone, v.made, v.depth)
+beside_popped v w p on = ap (λ (x : Log). (x.alone, x.made, x.depth)) on

@@ -76,10 +76,10 @@ pushed_by w = pushed_in w.pass
 
 -- whether the pass is the only one that the ring ever had, how many were made of it, and of how many it comes. A pass that was made
 -- of another comes of one more: so where this stays no pass was made, nor another taken for it
-abbrev pub company_in : Pass ParcelSeen Log → Bool × (ℕ × ℕ)
-company_in pass = ((view pass).alone, ((view pass).made, (view pass).depth))
+abbrev pub company_in : Pass ParcelSeen Log → Bool × ℕ × ℕ
+company_in pass = ((view pass).alone, (view pass).made, (view pass).depth)
 
-abbrev pub company_of : Worker → Bool × (ℕ × ℕ)
+abbrev pub company_of : Worker → Bool × ℕ × ℕ
 company_of w = company_in w.pass
 
 -- the event is the end of this job's request

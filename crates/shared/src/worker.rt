@@ -44,12 +44,12 @@ impl<B: Naming, D: BlockDevice, T: Trail> SharedCache<B, D, T> {
         ensures err { IfErr result (λ e. (e.0 ≡ Stranger) × (e.1 ≡ seat)) }
         ensures worker { IfOk result (IsWorkerOf self.now.ring B.name B.table B.deeds B.sizes) }
         ensures seat { IfOk result (λ w. seat_of w ≡ seat) }
-        ensures new { IfOk result (λ w. (popped_by w ≡ []) × (pushed_by w ≡ []) × (company_of w ≡ (false, 0, (company_of own.old).1.1 + 1))) }
+        ensures new { IfOk result (λ w. (popped_by w ≡ []) × (pushed_by w ≡ []) × (company_of w ≡ (false, 0, (company_of own.old).2 + 1))) }
         ensures own { IsWorkerOf self.now.ring B.name B.table B.deeds B.sizes own.new }
         ensures untouched { seat_of own.new ≡ seat_of own.old }
         ensures kept { (popped_by own.new ≡ popped_by own.old) × (pushed_by own.new ≡ pushed_by own.old) }
         ensures alone { OnErr result (company_of own.new ≡ company_of own.old) }
-        ensures made { OnOk result (company_of own.new ≡ (false, (company_of own.old).1.0 + 1, (company_of own.old).1.1)) }
+        ensures made { OnOk result (company_of own.new ≡ (false, (company_of own.old).1 + 1, (company_of own.old).2)) }
     {
         if seat.name() != self.name {
             return Err((Refusal::Stranger, seat));
