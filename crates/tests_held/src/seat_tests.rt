@@ -1,7 +1,6 @@
 //! How many seats a cache has.
 
 use crate::checks::check;
-use held::log::Seat;
 use held::state::Opened;
 use pc_types::{Geometry, Refusal};
 use std::alloc::Global;
@@ -9,15 +8,17 @@ use std::mem::drop;
 use std::process::Abort;
 use trail::NoTrail;
 
-/// The seats of a new cache that is to have so many.
-fn seats(rt: &impl Abort, alloc: Global, count: u64) -> Result<Vec<Seat>, Refusal> {
+/// How many seats a new cache has that is to have so many.
+fn seats(rt: &impl Abort, alloc: Global, count: u64) -> Result<usize, Refusal> {
     let geometry = Geometry::new(16, 48, 16, 64).expect(rt, "sizes");
     match Opened::new(alloc, &geometry, 7, NoTrail::new(), count) {
         Ok((opened, board, seats, own)) => {
+            let made = seats.len();
             drop(opened);
             drop(board);
+            drop(seats);
             drop(own);
-            Ok(seats)
+            Ok(made)
         }
         Err((refusal, trail)) => {
             drop(trail);
@@ -29,16 +30,7 @@ fn seats(rt: &impl Abort, alloc: Global, count: u64) -> Result<Vec<Seat>, Refusa
 #[test]
 fn a_cache_has_64_seats_at_most(rt: HostRuntime) {
     let alloc = rt.alloc();
-    let all = seats(&rt, alloc, 64);
-    check(&rt, all.is_ok_and(|seats| seats.len() == 64));
-    let too_many = seats(&rt, alloc, 65);
-    check(
-        &rt,
-        too_many.is_err_and(|refusal| refusal == Refusal::BadConfig),
-    );
-    let none = seats(&rt, alloc, 0);
-    check(
-        &rt,
-        none.is_err_and(|refusal| refusal == Refusal::BadConfig),
-    );
+    check(&rt, seats(&rt, alloc, 64) == Ok(64));
+    check(&rt, seats(&rt, alloc, 65) == Err(Refusal::BadConfig));
+    check(&rt, seats(&rt, alloc, 0) == Err(Refusal::BadConfig));
 }
