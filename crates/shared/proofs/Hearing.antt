@@ -90,8 +90,8 @@ level_new old new file p q same of knew is knows =
     is ∙ ap (λ (l : List Recording). record p { known = l }) known
 
 pub hears_named : (files : Catalog) (sizes : Sizes) (name called : ℕ) (slip : Slip) (seat : SeatSeen) (p : PassSeen) → called ≡ name
-    → Hears files sizes name slip seat p → Hears sizes called slip seat p
-hears_named files sizes name called slip seat p is h = subst (λ n. Hears sizes n slip seat p) (sym is) h
+    → Hears files sizes name slip seat p → Hears files sizes called slip seat p
+hears_named files sizes name called slip seat p is h = subst (λ n. Hears files sizes n slip seat p) (sym is) h
 
 -- what an fsync tells knows what its sync heard
 pub hears_told : (result : Result Slip Denied) (files : Catalog) (sizes : Sizes) (name : ℕ) (at : Slip) (seat : SeatSeen) (mid new : PassSeen)

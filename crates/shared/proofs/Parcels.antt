@@ -1,10 +1,11 @@
 -- The parcels that a pass pushed and popped, as their jobs.
-use Rattle.std.proofs.Common.{◌≡◌, ℕ, Bool, List, [], ◌∷◌, ◌++◌, map, ap, sym, ◌∙◌}
+use Rattle.std.proofs.Common.{◌≡◌, List, [], ◌∷◌, ◌++◌, map, ap, sym, ◌∙◌}
 use Rattle.std.proofs.lemmas.List.{map-append}
 use Rattle.blockdev.specs.Jobs.{Task}
 use Rattle.deeds.specs.Shown.{ParcelSeen}
 use Rattle.ring.specs.Order.{with_popped, with_pushed}
 use Rattle.ring.specs.declared.log.Log.{Log}
+use Rattle.shared.specs.Workers.{company}
 
 abbrev job_of : ParcelSeen → Task
 job_of p = p.task
@@ -29,11 +30,11 @@ pub same_pushed : (v w : Log) (p : ParcelSeen) → w ≡ with_popped v p
 same_pushed v w p on = ap (λ (x : Log). map job_of x.pushed) on
 
 -- no step but the making of a pass changes what passes there are
-pub beside_same : (v w : Log) → w ≡ v → (w.alone, w.made, w.depth) ≡ (v.alone, v.made, v.depth)
-beside_same v w on = ap (λ (x : Log). (x.alone, x.made, x.depth)) on
+pub beside_same : (v w : Log) → w ≡ v → company w ≡ company v
+beside_same v w on = ap company on
 
-pub beside_pushed : (v w : Log) (p : ParcelSeen) → w ≡ with_pushed v p → (w.alone, w.made, w.depth) ≡ (v.alone, v.made, v.depth)
-beside_pushed v w p on = ap (λ (x : Log). (x.alone, x.made, x.depth)) on
+pub beside_pushed : (v w : Log) (p : ParcelSeen) → w ≡ with_pushed v p → company w ≡ company v
+beside_pushed v w p on = ap company on
 
-pub beside_popped : (v w : Log) (p : ParcelSeen) → w ≡ with_popped v p → (w.alone, w.made, w.depth) ≡ (v.alone, v.made, v.depth)
-beside_popped v w p on = ap (λ (x : Log). (x.alone, x.made, x.depth)) on
+pub beside_popped : (v w : Log) (p : ParcelSeen) → w ≡ with_popped v p → company w ≡ company v
+beside_popped v w p on = ap company on

@@ -136,7 +136,7 @@ tested s (event.FillBegin h p) why asked may = absurd may
 tested s (event.Truncate h z) why asked may = absurd may
 tested s e why asked may = absurd asked
 
-module _ (files : Catalog) (sizes : Sizes) (s : State) (geometry : IsTrue (is_geometry sizes)) (k : IsKept sizes s) (rests : is_busy s ≡ false)
+module _ (sizes : Sizes) (s : State) (geometry : IsTrue (is_geometry sizes)) (k : IsKept sizes s) (rests : is_busy s ≡ false)
     (none : NothingToWrite s) where
   resting : s.requests ≡ finmap.empty
   resting = finmap.empty_of_len s.requests (none_left (finmap.len s.requests) rests)

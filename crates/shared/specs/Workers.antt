@@ -76,8 +76,11 @@ pushed_by w = pushed_in w.pass
 
 -- whether the pass is the only one that the ring ever had, how many were made of it, and of how many it comes. A pass that was made
 -- of another comes of one more: so where this stays no pass was made, nor another taken for it
+abbrev pub company : Log → Bool × ℕ × ℕ
+company v = (v.alone, v.made, v.depth)
+
 abbrev pub company_in : Pass ParcelSeen Log → Bool × ℕ × ℕ
-company_in pass = ((view pass).alone, (view pass).made, (view pass).depth)
+company_in pass = company (view pass)
 
 abbrev pub company_of : Worker → Bool × ℕ × ℕ
 company_of w = company_in w.pass

@@ -18,15 +18,18 @@ zeros_count blocks zeros = ap length zeros
 
 pub first_zeros : (sizes : Sizes) (name : ℕ) (blocks : List (List ℕ)) → sizes.page ≡ 16 → sizes.blocks ≡ 64
     → blocks ≡ zero_blocks 16 64 → MayBegin no_catalog sizes name blocks
-first_zeros sizes name blocks page count zeros = (no_catalog_is sizes, record {
-  page_size = omega (arith, page);
-  core = refl;
-  outcomes = refl;
-  writing = refl;
-  blocks = zeros_count blocks zeros ∙ sym count;
-  block_sizes = subst (All (λ block. length block ≡ sizes.page)) (sym zeros)
-      (All-replicate (λ block. length block ≡ sizes.page) 64 (replicate 16 0) (sym page));
-})
+first_zeros sizes name blocks page count zeros = (
+  no_catalog_is sizes,
+  record {
+    page_size = omega (arith, page);
+    core = refl;
+    outcomes = refl;
+    writing = refl;
+    blocks = zeros_count blocks zeros ∙ sym count;
+    block_sizes = subst (All (λ block. length block ≡ sizes.page)) (sym zeros)
+        (All-replicate (λ block. length block ≡ sizes.page) 64 (replicate 16 0) (sym page));
+  },
+)
 
 pub fresh_as : (s : State) (sizes : Sizes) (name called : ℕ) → s ≡ adopted sizes name no_catalog → called ≡ name
     → s ≡ adopted s.sizes called no_catalog

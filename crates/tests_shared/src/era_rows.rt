@@ -295,7 +295,12 @@ fn lives<B: Naming + Send + Sync, D: BlockDevice + Send, R: Threads + Wait + Syn
     };
     // Both have their files at the beginning, too: the history is to replay from there on.
     let before = copies(alloc, &one, &two);
-    let (first, second) = both_work(rt, &cache, Caller::of(first, one, true), Caller::of(second, two, true));
+    let (first, second) = both_work(
+        rt,
+        &cache,
+        Caller::of(first, one, true),
+        Caller::of(second, two, true),
+    );
     let (first, one, is_one_well) = first.into_parts();
     let (second, two, is_two_well) = second.into_parts();
     let Some(seats) = with_two::<B>(seats, first, second) else {
@@ -410,9 +415,7 @@ fn next_era<D: BlockDevice + Send, R: Threads + Wait + Sync>(
         }
     };
     match Parts::over(rt, alloc, geometry, name, catalog, device, trail, 2) {
-        Ok((parts, seats)) => {
-            era_over::<Brand, D, R>(rt, alloc, parts, seats, one, two)
-        }
+        Ok((parts, seats)) => { era_over::<Brand, D, R>(rt, alloc, parts, seats, one, two) }
         Err(unadopted) => {
             drop(unadopted);
             None

@@ -52,13 +52,13 @@ returns-in-Ok-clause-closed g c = (
   c.in-Ok.ensures.seats,
   λ tells. let t = c.in-Ok.ensures.tied tells in record {
     world = t.world;
-    honest = tied_honest _ _ _ _ _ _ t;
+    honest = tied_honest _ _ _ _ _ _ _ t;
     core_is = t.core_is;
     left = c.into_parts-device.result.1;
     told = c.into_parts-device.ensures.contents tells;
-    each = λ k low free. tied_at _ _ _ _ _ _ t g.B.NamesDeeds.told c.in-Ok.ensures.desk c.into_parts-device.result.1 c.close-in-Ok.ensures.knows k
+    each = λ k low free. tied_at _ _ _ _ _ _ _ t g.B.NamesDeeds.told c.in-Ok.ensures.desk c.into_parts-device.result.1 c.close-in-Ok.ensures.knows k
         (subst (λ (s : Sizes). k < s.blocks) (sym c.in-Ok.ensures.core.1) low) free;
-    busy = λ u x there. tied_busy _ _ _ _ _ _ t c.in-Ok.ensures.desk c.into_parts-device.result.1
+    busy = λ u x there. tied_busy _ _ _ _ _ _ _ t c.in-Ok.ensures.desk c.into_parts-device.result.1
         (subst (λ b. Knows b c.into_parts-device.result.1 c.in-Ok.desk) tells c.close-in-Ok.ensures.knows) u x there;
   },
 )

@@ -1,4 +1,4 @@
-use Rattle.std.proofs.Common.{◌≡◌, rules, subst, sym}
+use Rattle.std.proofs.Common.{◌≡◌, rules, subst, sym, ◌∙◌}
 use Rattle.std.specs.Prelude.{is_some}
 use Rattle.blockdev.specs.Jobs.{IsJobFor, Task}
 use Rattle.held.specs.Called.{Only}
@@ -75,3 +75,10 @@ returns-in_default-clause-only g c =
 pub returns-clause-goes : goal.returns-clause-goes
 returns-clause-goes g c =
     goes_on c.args.worker.now.seat c.begin_flush.new.seat c.end_job.new.seat c.begin_flush.ensures.goes c.end_job.ensures.goes
+
+pub returns-in_default-clause-worker : goal.returns-in_default-clause-worker
+returns-in_default-clause-worker g c = record {
+  passes = c.put.ensures.pass;
+  named = c.begin_flush.ensures.goes.same.1 ∙ c.requires.worker.named;
+  seated = c.begin_flush.ensures.goes.same.0 ∙ c.requires.worker.seated;
+}

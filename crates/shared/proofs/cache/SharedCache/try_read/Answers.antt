@@ -58,7 +58,7 @@ returns-in-Bytes-clause-within g c small =
     let as_long = c.read.auto.out in
     read_counted g.B.Naming.files c.args.handle c.args.offset (length c.args.out.now) c.in-Bytes.count c.read.new.out
     c.deref_mut.result.now c.read.new.self c.args.seat.now c.read.new.seat c.in-Ok.made.1 (omega arith)
-    (subst (λ (s : HeldSeen). After s.core.state.sizes s.core.state.name s.log.history s.core.state)
+    (subst (λ (s : HeldSeen). After g.B.Naming.files s.core.state.sizes s.core.state.name s.log.history s.core.state)
     (c.deref.ensures ∙ sym c.deref_mut.ensures.value) c.core.ensures.legal)
     (subst (λ (x : ReadAnswer). Made (event.Read c.args.handle c.args.offset (length c.args.out.now))
     (was_read (Ok x) c.read.new.out) c.deref_mut.result.now c.read.new.self c.args.seat.now c.read.new.seat
