@@ -1,2 +1,5 @@
+pub mod Listings
 pub mod Longs
+pub mod OneFile
 pub mod Parts
+pub mod Tables
