@@ -1,4 +1,3 @@
-pub mod Listings
 pub mod Longs
 pub mod OneFile
 pub mod Parts

@@ -8,10 +8,10 @@ use Rattle.world.specs.Stepping.{adopted_world}
 use Rattle.relay.specs.Device.{told_relay}
 use Rattle.filesvc.specs.Seen.{HandleSeen}
 use Rattle.filesvc.specs.Service.{files}
-use Rattle.desk.specs.Listing.{IsUnfit, Lists}
+use Rattle.listing.specs.Listing.{IsUnfit, Lists}
 use Rattle.desk.specs.Seen.{DeskSeen, handle_at}
-use Rattle.desk.specs.declared.listing.FileExtent.{FileExtent}
-use Rattle.desk.specs.declared.listing.Unfit.TheVariants as unfit
+use Rattle.listing.specs.declared.list.FileExtent.{FileExtent}
+use Rattle.listing.specs.declared.list.Unfit.TheVariants as unfit
 use Rattle.pcache_c.specs.Answers.{misfit_answer, refusal_answer}
 
 -- the open handle of a number, where there is a cache and it has one

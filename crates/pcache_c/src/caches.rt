@@ -6,7 +6,7 @@ ghost use Rattle.std.specs.Result.{IsErrAnd};
 ghost use Rattle.pc_types.specs.declared.refusal.Refusal.TheVariants.{Memory};
 ghost use Rattle.runs.specs.Restart.{IsClean};
 ghost use Rattle.filesvc.specs.Service.{Tells, files};
-ghost use Rattle.desk.specs.Listing.{extent_of};
+ghost use Rattle.listing.specs.Listing.{extent_of};
 ghost use Rattle.desk.specs.Seen.{DeskSeen, IsExtentNow, NoExtentNow};
 ghost use Rattle.pcache_c.specs.Answers.{bad_handle, refusal_answer};
 ghost use Rattle.pcache_c.specs.Caches.{IsAdoptRefusal, IsAdopted};
@@ -16,7 +16,7 @@ use crate::cache::Cache;
 use crate::files::nothing;
 use crate::held::Held;
 use catalog::{Catalog, Extent};
-use desk::{FileExtent, Unfit, catalog_of};
+use listing::{FileExtent, Unfit, catalog_of};
 use pc_types::{FileId, Geometry, PageIndex, Refusal};
 use std::alloc::Global;
 

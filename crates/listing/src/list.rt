@@ -5,7 +5,7 @@ ghost use Rattle.std.specs.FinMap as map;
 ghost use Rattle.machine.specs.Catalogs.{no_catalog};
 ghost use Rattle.catalog.specs.Extents.{Added, misfit};
 ghost use Rattle.catalog.specs.declared.extent.Misfit.TheVariants as why;
-ghost use Rattle.desk.specs.Listing.{IsUnfit, Lists, extent_of};
+ghost use Rattle.listing.specs.Listing.{IsUnfit, Lists, extent_of};
 
 use catalog::{Catalog, Extent, Misfit};
 use pc_types::{BlockNo, FileId, Geometry, PageIndex};

@@ -1,5 +1,5 @@
 -- Files that a device has already, as a program lists them: their sizes, and where their pages stand.
-use Rattle.std.specs.Prelude.{◌≡◌, ℕ, ◌<◌, ◌≤◌, ◌==◌, ◌⊎◌, ◌^◌, if◌then◌else◌, List, Option, Some, None, take, slice_get, slice_index, IfSome}
+use Rattle.std.specs.Prelude.{◌≡◌, ℕ, ◌<◌, ◌≤◌, ◌==◌, ◌⊎◌, ◌^◌, if◌then◌else◌, List, Option, Some, None, take, slice_get, slice_index}
 use Rattle.std.specs.List.{filter_map, last_or}
 use Rattle.std.specs.FinMap as map
 use Rattle.pc_types.specs.Spots.{Spot}
@@ -9,9 +9,9 @@ use Rattle.catalog.specs.Extents.{misfit, spot_in}
 use Rattle.catalog.specs.declared.extent.Extent.{Extent}
 use Rattle.catalog.specs.declared.extent.Misfit.{Misfit}
 use Rattle.catalog.specs.declared.extent.Misfit.TheVariants.{Memory, PastDevice, TooLarge, TooManyFiles}
-use Rattle.desk.specs.declared.listing.FileExtent.{FileExtent}
-use Rattle.desk.specs.declared.listing.Unfit.{Unfit}
-use Rattle.desk.specs.declared.listing.Unfit.TheVariants as unfit
+use Rattle.listing.specs.declared.list.FileExtent.{FileExtent}
+use Rattle.listing.specs.declared.list.Unfit.{Unfit}
+use Rattle.listing.specs.declared.list.Unfit.TheVariants as unfit
 
 -- an extent without its file
 abbrev pub extent_of : FileExtent → Extent
@@ -22,8 +22,8 @@ abbrev pub spot_by : ℕ → ℕ → ℕ → FileExtent → Option Spot
 spot_by P f p e = if f == e.file then spot_in P (extent_of e) p else None
 
 -- the catalog has the files of these sizes, and each page where the list's last extent with it has it
-pub record Lists (sizes : List ℕ) (extents : List FileExtent) (c : Cataloged) : Type 0 where
-  pub sizes : c.files.sizes ≡ sizes
+pub record Lists (lengths : List ℕ) (extents : List FileExtent) (c : Cataloged) : Type 0 where
+  pub sizes : c.files.sizes ≡ lengths
   pub spots : (f p : ℕ) → map.get c.files.spots (f, p) ≡ last_or None (filter_map (spot_by c.page f p) extents)
 
 -- the catalog of what stands before in the list doesn't take an extent
