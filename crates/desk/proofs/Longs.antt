@@ -90,7 +90,7 @@ module _ (old : SoloSeen) (h : HandleSeen) (offset most : ℕ) (mid : SoloSeen) 
 
 -- nothing of these bytes was written
 pub wrote_none : (s : SoloSeen) (h : HandleSeen) (offset : ℕ) (bytes : List ℕ) → HasWritten s h offset bytes s 0
-wrote_none s h offset bytes = record { keeps = keeps_refl s; within = omega arith; file = λ _. sym (with_same (files s) h.file) }
+wrote_none s h offset bytes = record { keeps = keeps_refl s; within = omega arith; file = λ _. sym (with_same (files s) h.file); none = λ _ _. refl }
 
 -- a part that was written behind what was written before
 pub wrote_more : (old mid new : SoloSeen) (h : HandleSeen) (offset done end : ℕ) (bytes : List ℕ) → HasWritten old h offset bytes mid done → IsOpen old h → done < end → end ≤ length bytes
@@ -109,4 +109,5 @@ wrote_more old mid new h offset done end bytes w here d l k after = record {
       ∙ ap (λ (k : ℕ). with_file (files old) h.file (pwrite (pwrite F offset (take done bytes)) (offset + k) part)) (sym len)
       ∙ ap (with_file (files old) h.file) (pwrite_on F offset (take done bytes) part)
       ∙ ap (λ (xs : List ℕ). with_file (files old) h.file (pwrite F offset xs)) (both done bytes (end - done) end (omega (arith, d)));
+  none = λ z. absurd (omega (arith, z, d));
 }

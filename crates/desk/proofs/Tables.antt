@@ -8,7 +8,7 @@ use Rattle.errboard.specs.Shown.{RecorderSeen}
 use Rattle.pc_types.specs.declared.ids.FileId.{FileId}
 use Rattle.pc_types.specs.declared.limits.TheConstants.{MAX_FILES, MAX_HANDLES}
 use Rattle.pc_types.specs.declared.refusal.Refusal.{Refusal}
-use Rattle.pc_types.specs.declared.refusal.Refusal.TheVariants.{NoSuchFile, TooManyHandles}
+use Rattle.pc_types.specs.declared.refusal.Refusal.TheVariants.{NoSuchFile, TooManyFiles, TooManyHandles}
 use Rattle.machine.specs.Changes.{changed}
 use Rattle.machine.specs.State.{State, is_open, no_file}
 use Rattle.machine.specs.Step.{MayReply, Step}
@@ -18,11 +18,12 @@ use Rattle.machine.specs.declared.event.Reply.TheVariants as reply
 use Rattle.machine.proofs.steps.Cases.{answered}
 use Rattle.runs.proofs.events.Lookups.{get-remove1}
 use Rattle.runs.proofs.views.View.{put1_else}
+use Rattle.catalog.specs.Cataloged.{Cataloged}
 use Rattle.cachecore.specs.Replies.{created}
 use Rattle.filesvc.specs.Seen.{HandleSeen, SoloSeen}
 use Rattle.filesvc.specs.Service.{IsAsBefore, IsOpen, KeepsBut, Names, Opened, Opens}
 use Rattle.filesvc.proofs.Callers.{open_beside, opened_is}
-use Rattle.desk.specs.Seen.{IsTable}
+use Rattle.desk.specs.Seen.{ArePlaces, IsTable}
 
 abbrev Table : Type 0
 Table = List (Option HandleSeen)
@@ -73,6 +74,17 @@ stays_created old new (Err why) step errors = elim (answered (tests old.world.co
   | inr a ↦ stays_core old new old.world.core a.2 refl refl (omega arith) errors
 ]
 
+-- the number of a file that was created
+pub created_number : (old new : State) (f : FileId) → Step old event.Create (reply.File f) new → f.0 ≡ length old.files
+created_number old new f step = elim (answered (tests old event.Create) old event.Create (reply.File f) new step) [
+  | inl a ↦ absurd (refuses (nat_le MAX_FILES (length old.files)) a.0)
+  | inr a ↦ a.1
+]
+  where
+    refuses : (b : Bool) → (if b then refuse TooManyFiles else None) ≡ Some (reply.File f) → ⊥
+    refuses true e = absurd cc
+    refuses false e = absurd cc
+
 -- an open that was refused
 stays_unopened : (old new : SoloSeen) (f : ℕ) (why : Refusal) → Step old.world.core (event.Open (record { 0 = f })) (reply.Refused why) new.world.core → new.errors ≡ old.errors → StaysFor old new
 stays_unopened old new f why step errors = elim (answered (tests old.world.core (event.Open (record { 0 = f }))) old.world.core (event.Open (record { 0 = f })) (reply.Refused why) new.world.core step) [
@@ -101,6 +113,9 @@ table_stays old new handles k t = record {
   named = λ n h e. t.named n h e ∙ sym k.name;
   apart = t.apart;
 }
+
+pub no_places : (s : SoloSeen) (places : Option Cataloged) → places ≡ None → ArePlaces s places
+no_places s places e c is = absurd (let k : None ≡ Some c = sym e ∙ is in cc)
 
 -- ---- the table changes
 

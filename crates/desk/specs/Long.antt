@@ -21,3 +21,4 @@ pub record HasWritten (old : SoloSeen) (h : HandleSeen) (offset : ℕ) (bytes : 
   pub keeps : Keeps old new
   pub within : done ≤ length bytes
   pub file : Tells old → files new ≡ with_file (files old) h.file (plain.pwrite (plain_file (files old) h.file) offset (take done bytes))
+  pub none : done ≡ 0 → Tells old → files new ≡ files old

@@ -71,11 +71,12 @@ impl<D: BlockDevice> Desk<D> {
 
     /// A new file, without bytes. It stays as long as the desk. `TooManyFiles`, `Memory`.
     pub fn create(&mut self) -> Result<FileId, Refusal>
+        ensures number { IfOk result (λ file. file.0 ≡ length self.old.service.world.core.files) }
         ensures files { FilesAfter self.old.service event.Create (created result) self.new.service }
         ensures handles { self.new.handles ≡ self.old.handles }
         ensures device { self.new.service.world.device ≡ self.old.service.world.device }
     {
-        self.places = None;
+        forget(&mut self.places);
         self.solo.create()
     }
 
@@ -88,7 +89,7 @@ impl<D: BlockDevice> Desk<D> {
         ensures files { Tells self.old.service → (files self.new.service).files ≡ (files self.old.service).files }
         ensures device { self.new.service.world.device ≡ self.old.service.world.device }
     {
-        self.places = None;
+        forget(&mut self.places);
         self.handles.reserve(1)?;
         let handle = self.solo.open(file, false)?;
         Ok(HandleNo(self.handles.insert_reserved(handle) as u64))
@@ -103,7 +104,7 @@ impl<D: BlockDevice> Desk<D> {
         ensures files { Tells self.old.service → (files self.new.service).files ≡ (files self.old.service).files }
         ensures device { self.new.service.world.device ≡ self.old.service.world.device }
     {
-        self.places = None;
+        forget(&mut self.places);
         let Some(handle) = self.handles.try_remove(number.0 as usize) else {
             return Err(Refusal::BadHandle);
         };
@@ -122,7 +123,7 @@ impl<D: BlockDevice> Desk<D> {
         ensures serves { Serves self.old.service self.new.service }
         ensures handles { self.new.handles ≡ self.old.handles }
     {
-        self.places = None;
+        forget(&mut self.places);
         let Some(handle) = self.handles.get(number.0 as usize) else {
             return Err(Refusal::BadHandle);
         };
@@ -139,7 +140,7 @@ impl<D: BlockDevice> Desk<D> {
         ensures handles { self.new.handles ≡ self.old.handles }
         ensures tells { Tells self.old.service → Tells self.new.service }
     {
-        self.places = None;
+        forget(&mut self.places);
         let Some(handle) = self.handles.get(number.0 as usize) else {
             return Err(Refusal::BadHandle);
         };
@@ -154,7 +155,7 @@ impl<D: BlockDevice> Desk<D> {
         ensures handles { self.new.handles ≡ self.old.handles }
         ensures tells { Tells self.old.service → Tells self.new.service }
     {
-        self.places = None;
+        forget(&mut self.places);
         let Some(handle) = self.handles.get(number.0 as usize) else {
             return Err(Refusal::BadHandle);
         };
@@ -182,7 +183,7 @@ impl<D: BlockDevice> Desk<D> {
         ensures files { Tells self.old.service → files self.new.service ≡ files self.old.service }
         ensures stays { Stays self.old self.new number.0 }
     {
-        self.places = None;
+        forget(&mut self.places);
         let Some(handle) = self.handles.get_mut(number.0 as usize) else {
             return Err(Refusal::BadHandle);
         };
@@ -202,7 +203,7 @@ impl<D: BlockDevice> Desk<D> {
         ensures files { Tells self.old.service → files self.new.service ≡ files self.old.service }
         ensures stays { Stays self.old self.new number.0 }
     {
-        self.places = None;
+        forget(&mut self.places);
         let Some(handle) = self.handles.get_mut(number.0 as usize) else {
             return Err(Refusal::BadHandle);
         };
@@ -228,7 +229,7 @@ impl<D: BlockDevice> Desk<D> {
         ensures serves { Serves self.old.service self.new.service }
         ensures handles { self.new.handles ≡ self.old.handles }
     {
-        self.places = None;
+        forget(&mut self.places);
         self.solo.sync_all()
     }
     /// Whether a handle has the number.
@@ -254,6 +255,13 @@ impl<D: BlockDevice> Desk<D> {
         self.places = Some(places);
         next
     }
+}
+
+/// Before a call that may change where the files stand. By a call, since the check is slow where a catalog goes out of scope.
+fn forget(places: &mut Option<Catalog>)
+    ensures { places.new ≡ None }
+{
+    drop(places.take());
 }
 
 /// The file's next extent in a catalog. `NoSuchFile`.

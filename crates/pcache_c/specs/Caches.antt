@@ -7,7 +7,7 @@ use Rattle.catalog.specs.declared.extent.Misfit.{Misfit}
 use Rattle.world.specs.Stepping.{adopted_world}
 use Rattle.relay.specs.Device.{told_relay}
 use Rattle.filesvc.specs.Seen.{HandleSeen}
-use Rattle.filesvc.specs.Service.{files}
+use Rattle.filesvc.specs.Service.{Tells, files}
 use Rattle.listing.specs.Listing.{IsUnfit, Lists}
 use Rattle.desk.specs.Seen.{DeskSeen, handle_at}
 use Rattle.listing.specs.declared.list.FileExtent.{FileExtent}
@@ -21,7 +21,7 @@ opened_at (Some desk) n = handle_at desk n
 
 -- a file without bytes is behind the others, with this number
 abbrev pub IsCreated : DeskSeen → DeskSeen → ℕ → Type 0
-IsCreated old new n = (n ≡ length (files old.service).files) × ((files new.service).files ≡ (files old.service).files ++ [] ∷ [])
+IsCreated old new n = (n ≡ length old.service.world.core.files) × (Tells old.service → (files new.service).files ≡ (files old.service).files ++ [] ∷ [])
 
 -- a new cache over the listed files, none of which is open
 abbrev pub IsAdopted : Sizes → List ℕ → List FileExtent → DeskSeen → Type 0

@@ -84,7 +84,12 @@ impl Cache {
     {
         let solo = match Solo::over(alloc, geometry, 1, catalog, device) {
             Ok(solo) => solo,
-            Err((refusal, _catalog, _device)) => return Err(refusal),
+            Err((refusal, catalog, device)) => {
+                // each by a call, since the check is slow where they go out of scope
+                drop(catalog);
+                drop(device);
+                return Err(refusal);
+            }
         };
         Ok(Cache {
             desk: Desk::new(alloc, solo, geometry.page()),

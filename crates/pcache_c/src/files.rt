@@ -20,7 +20,7 @@ use std::alloc::Global;
 #[unsafe(no_mangle)]
 pub extern "C" fn pcache_create(alloc: Global, held: &mut Held) -> i64
     ensures none { held.old.value ≡ None → (result ≡ bad_handle) × (held.new.value ≡ None) }
-    ensures created { (old : DeskSeen) (n : ℕ) → held.old.value ≡ Some old → result ≡ pos n → IsSomeAnd held.new.value (λ new. Tells old.service → IsCreated old new n) }
+    ensures created { (old : DeskSeen) (n : ℕ) → held.old.value ≡ Some old → result ≡ pos n → IsSomeAnd held.new.value (λ new. IsCreated old new n) }
     ensures kept { (old : DeskSeen) → held.old.value ≡ Some old → IsSomeAnd held.new.value (λ new. new.handles ≡ old.handles) }
 {
     let Some(mut cache) = held.take_out(alloc) else {
