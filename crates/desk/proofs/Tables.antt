@@ -1,6 +1,7 @@
 -- The handles of a table stay open through the calls of each other.
-use Rattle.std.proofs.Common.{◌≡◌, ◌≢◌, ◌⊎◌, ℕ, ◌<◌, ◌≤◌, Bool, true, false, true≢false, List, [], ◌∷◌, length, get_or, Option, Some, None, is_some, refl, sym, ap, subst, ◌∙◌, inl, inr, arith, nat_cmp, length-append}
+use Rattle.std.proofs.Common.{◌≡◌, ◌≢◌, ◌⊎◌, ℕ, ◌<◌, ◌≤◌, Bool, true, false, true≢false, List, [], ◌∷◌, length, get_or, set, Option, Some, None, is_some, refl, sym, ap, subst, ◌∙◌, inl, inr, arith, nat_cmp, length-append}
 use Rattle.std.proofs.lemmas.Bool.{cases_eq}
+use Rattle.std.proofs.lemmas.List.{get_or-set_other, get_or-set_same, get_or_past}
 use Rattle.std.specs.Prelude.{Result, Ok, Err, if◌then◌else◌, nat_le}
 use Rattle.std.specs.FinMap as finmap
 use Rattle.std.specs.FinMap.{FinMap}
@@ -23,7 +24,7 @@ use Rattle.cachecore.specs.Replies.{created}
 use Rattle.filesvc.specs.Seen.{HandleSeen, SoloSeen}
 use Rattle.filesvc.specs.Service.{IsAsBefore, IsOpen, KeepsBut, Names, Opened, Opens}
 use Rattle.filesvc.proofs.Callers.{open_beside, opened_is}
-use Rattle.desk.specs.Seen.{ArePlaces, IsTable}
+use Rattle.desk.specs.Seen.{ArePlaces, DeskSeen, IsTable, Stays, handle_at}
 
 abbrev Table : Type 0
 Table = List (Option HandleSeen)
@@ -117,6 +118,14 @@ table_stays old new handles k t = record {
 pub no_places : (s : SoloSeen) (places : Option Cataloged) → places ≡ None → ArePlaces s places
 no_places s places e c is = absurd (let k : None ≡ Some c = sym e ∙ is in cc)
 
+pub stays_polled : (old new : SoloSeen) → new ≡ record old { errors = record old.errors { words = new.errors.words }; attempts = 0 } → StaysFor old new
+stays_polled old new e = record {
+  board = ap (λ (s : SoloSeen). s.errors.board) e;
+  name = ap (λ (s : SoloSeen). s.world.core.name) e;
+  handles = ap (λ (s : SoloSeen). s.world.core.handles) e;
+  count = (let same = ap (λ (s : SoloSeen). length s.world.core.files) e in omega arith);
+}
+
 -- ---- the table changes
 
 pub no_table : (s : SoloSeen) → IsTable s []
@@ -147,6 +156,27 @@ module _ (s : SoloSeen) (old new : Table) (n : ℕ) (h g : HandleSeen) (t : IsTa
     ];
     apart = λ a b x y e k same. (let p = before a x e in let q = before b y k in t.apart a b p.0 q.0 p.1 q.1 (p.2 ∙ same ∙ sym q.2));
   }
+
+-- a number that has a handle is one of the table's
+within : (handles : Table) (n : ℕ) (h : HandleSeen) → at handles n ≡ Some h → n < length handles
+within handles n h was = elim (low n (length handles)) [
+  | inl below ↦ below
+  | inr past ↦ absurd (let k : None ≡ Some h = sym (get_or_past handles n None past) ∙ was in cc)
+]
+  where
+    low : (a b : ℕ) → (a < b) ⊎ (b ≤ a)
+    low a b = grind arith
+
+-- through the table's own reference to it
+pub table_set : (s : SoloSeen) (handles : Table) (n : ℕ) (h g : HandleSeen) → IsTable s handles → at handles n ≡ Some h → g.number ≡ h.number → IsOpen s g → Names s g → IsTable s (set handles n (Some g))
+table_set s handles n h g t was number opened named =
+    table_put s handles (set handles n (Some g)) n h g t was (get_or-set_same handles n (Some g) None (within handles n h was)) (λ m differs. get_or-set_other handles n m (Some g) None differs) number opened named
+
+pub stays_set : (old : DeskSeen) (s : SoloSeen) (n : ℕ) (h g : HandleSeen) → handle_at old n ≡ Some h → g.file ≡ h.file → Stays old (record { service = s; handles = set old.handles n (Some g) }) n
+stays_set old s n h g was file = record {
+  others = λ m differs. get_or-set_other old.handles n m (Some g) None differs;
+  same = λ x is. (g, get_or-set_same old.handles n (Some g) None (within old.handles n h was), file ∙ ap (λ (z : HandleSeen). z.file) (some_is (sym was ∙ is)));
+}
 
 -- a handle is opened
 module _ (old new : SoloSeen) (f : ℕ) (append : Bool) (h : HandleSeen) (o : Opens old f append h new) (errors : new.errors ≡ old.errors) where
@@ -209,8 +239,8 @@ module _ (old new : SoloSeen) (before after : Table) (n : ℕ) (h : HandleSeen) 
   kept : (x : HandleSeen) → x.number ≢ h.number
       → (finmap.get new.world.core.handles x.number ≡ finmap.get old.world.core.handles x.number) × ((new.world.core.name ≡ old.world.core.name) × (length new.world.core.files ≡ length old.world.core.files))
   kept x differs = elim (answered (tests old.world.core (event.Close (record { 0 = h.number }))) old.world.core (event.Close (record { 0 = h.number })) reply.Closed new.world.core step) [
-    | inl a ↦ (ap (λ (s : State). finmap.get s.handles x.number) a.1, ap (λ (s : State). s.name) a.1, ap (λ (s : State). length s.files) a.1)
-    | inr a ↦ (ap (λ (s : State). finmap.get s.handles x.number) a.2 ∙ get-remove1 old.world.core.handles h.number x.number ∙ put1_else _ h.number None x.number differs, ap (λ (s : State). s.name) a.2, ap (λ (s : State). length s.files) a.2)
+    | inl a ↦ (ap (λ (s : State). finmap.get s.handles x.number) a.1, (ap (λ (s : State). s.name) a.1, ap (λ (s : State). length s.files) a.1))
+    | inr a ↦ (ap (λ (s : State). finmap.get s.handles x.number) a.2 ∙ get-remove1 old.world.core.handles h.number x.number ∙ put1_else _ h.number None x.number differs, (ap (λ (s : State). s.name) a.2, ap (λ (s : State). length s.files) a.2))
   ]
 
   pub table_closed : IsTable new after
