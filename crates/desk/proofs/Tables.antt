@@ -2,9 +2,10 @@
 use Rattle.std.proofs.Common.{◌≡◌, ◌≢◌, ◌⊎◌, ℕ, ◌<◌, ◌≤◌, Bool, true, false, true≢false, List, [], ◌∷◌, length, get_or, set, Option, Some, None, is_some, refl, sym, ap, subst, ◌∙◌, inl, inr, arith, nat_cmp, length-append}
 use Rattle.std.proofs.lemmas.Bool.{cases_eq}
 use Rattle.std.proofs.lemmas.List.{get_or-set_other, get_or-set_same, get_or_past}
-use Rattle.std.specs.Prelude.{Result, Ok, Err, if◌then◌else◌, nat_le}
+use Rattle.std.specs.Prelude.{Result, Ok, Err, IfErr, IfNone, IfOk, IfSome, IsOk, OnErr, if◌then◌else◌, nat_le}
 use Rattle.std.specs.FinMap as finmap
 use Rattle.std.specs.FinMap.{FinMap}
+use Rattle.slab.specs.Slab.{Slab}
 use Rattle.errboard.specs.Shown.{RecorderSeen}
 use Rattle.pc_types.specs.declared.ids.FileId.{FileId}
 use Rattle.pc_types.specs.declared.limits.TheConstants.{MAX_FILES, MAX_HANDLES}
@@ -19,12 +20,16 @@ use Rattle.machine.specs.declared.event.Reply.TheVariants as reply
 use Rattle.machine.proofs.steps.Cases.{answered}
 use Rattle.runs.proofs.events.Lookups.{get-remove1}
 use Rattle.runs.proofs.views.View.{put1_else}
+use Rattle.blockmap.specs.Keys.{NoneFrom}
 use Rattle.catalog.specs.Cataloged.{Cataloged}
+use Rattle.catalog.specs.Extents.{IsNext}
+use Rattle.catalog.specs.declared.extent.Extent.{Extent}
+use Rattle.cachecore.specs.Standing as standing
 use Rattle.cachecore.specs.Replies.{created}
 use Rattle.filesvc.specs.Seen.{HandleSeen, SoloSeen}
-use Rattle.filesvc.specs.Service.{IsAsBefore, IsOpen, KeepsBut, Names, Opened, Opens}
+use Rattle.filesvc.specs.Service.{IsAsBefore, IsOpen, IsTold, KeepsBut, Names, Opened, Opens, close_reply}
 use Rattle.filesvc.proofs.Callers.{open_beside, opened_is}
-use Rattle.desk.specs.Seen.{ArePlaces, DeskSeen, IsTable, Stays, handle_at}
+use Rattle.desk.specs.Seen.{ArePlaces, DeskSeen, IsExtentNow, IsTable, NoExtentNow, Stays, handle_at}
 
 abbrev Table : Type 0
 Table = List (Option HandleSeen)
@@ -32,7 +37,7 @@ Table = List (Option HandleSeen)
 abbrev at : Table → ℕ → Option HandleSeen
 at handles n = get_or handles n None
 
-some_is : {x y : HandleSeen} → Some x ≡ Some y → x ≡ y
+pub some_is : {x y : HandleSeen} → Some x ≡ Some y → x ≡ y
 some_is e = cc
 
 -- ---- the service changes, and the table doesn't
@@ -178,6 +183,58 @@ stays_set old s n h g was file = record {
   same = λ x is. (g, get_or-set_same old.handles n (Some g) None (within old.handles n h was), file ∙ ap (λ (z : HandleSeen). z.file) (some_is (sym was ∙ is)));
 }
 
+-- a handle of the same number and file, which was told of errors, or was moved
+pub record SameHandle (h g : HandleSeen) : Type 0 where
+  pub number : g.number ≡ h.number
+  pub file : g.file ≡ h.file
+  pub cache : g.cache ≡ h.cache
+  pub board : g.pass.board ≡ h.pass.board
+  pub pass : g.pass.file ≡ h.pass.file
+
+same_self : (h g : HandleSeen) → g ≡ h → SameHandle h g
+same_self h g e = record {
+  number = ap (λ (x : HandleSeen). x.number) e;
+  file = ap (λ (x : HandleSeen). x.file) e;
+  cache = ap (λ (x : HandleSeen). x.cache) e;
+  board = ap (λ (x : HandleSeen). x.pass.board) e;
+  pass = ap (λ (x : HandleSeen). x.pass.file) e;
+}
+
+pub same_told : (s : SoloSeen) (h g : HandleSeen) → IsTold s h g ⊎ (g ≡ h) → SameHandle h g
+same_told s h g (inl told) = record {
+  number = ap (λ (x : HandleSeen). x.number) told.same;
+  file = ap (λ (x : HandleSeen). x.file) told.same;
+  cache = ap (λ (x : HandleSeen). x.cache) told.same;
+  board = told.board;
+  pass = told.file;
+}
+same_told s h g (inr kept) = same_self h g kept
+
+pub same_polled : (s : SoloSeen) (h g : HandleSeen) (r : Result (Option ℕ) Refusal) → IsOk r → IfOk r (λ _. IsTold s h g) → SameHandle h g
+same_polled s h g (Ok code) ok told = same_told s h g (inl told)
+same_polled s h g (Err why) ok told = absurd (let wrong = ok in cc)
+
+pub same_moved : (h g : HandleSeen) (r : Result ℕ Refusal) → IfOk r (λ at. g ≡ record h { cursor = at }) → OnErr r (g ≡ h) → SameHandle h g
+same_moved h g (Ok at) moved kept = record {
+  number = ap (λ (x : HandleSeen). x.number) moved;
+  file = ap (λ (x : HandleSeen). x.file) moved;
+  cache = ap (λ (x : HandleSeen). x.cache) moved;
+  board = ap (λ (x : HandleSeen). x.pass.board) moved;
+  pass = ap (λ (x : HandleSeen). x.pass.file) moved;
+}
+same_moved h g (Err why) moved kept = same_self h g kept
+
+pub table_same : (old new : SoloSeen) (handles : Table) (n : ℕ) (h g : HandleSeen) → StaysFor old new → IsTable old handles → at handles n ≡ Some h → SameHandle h g → IsTable new (set handles n (Some g))
+table_same old new handles n h g k t was same =
+    let now = table_stays old new handles k t in
+    let o = now.opened n h was in
+    table_set new handles n h g now was same.number (record {
+      board = same.board ∙ o.board;
+      pass = same.pass ∙ o.pass ∙ sym same.file;
+      number = ap (finmap.get new.world.core.handles) same.number ∙ o.number ∙ ap (λ (f : ℕ). Some f) (sym same.file);
+      file = (let low = o.file in let e = same.file in omega arith);
+    }) (same.cache ∙ now.named n h was)
+
 -- a handle is opened
 module _ (old new : SoloSeen) (f : ℕ) (append : Bool) (h : HandleSeen) (o : Opens old f append h new) (errors : new.errors ≡ old.errors) where
   refuses : (a b : Bool) → (if a then refuse NoSuchFile else if b then refuse TooManyHandles else None) ≡ Some (reply.Handle (record { 0 = h.number })) → ⊥
@@ -225,6 +282,20 @@ module _ (old new : SoloSeen) (f : ℕ) (append : Bool) (h : HandleSeen) (o : Op
       ];
     }
 
+pub opens_by : (old new : SoloSeen) (f : ℕ) (append : Bool) (r : Result HandleSeen Refusal) (h : HandleSeen) → r ≡ Ok h
+    → (MAX_FILES ≤ f → (r ≡ Err NoSuchFile) × IsAsBefore old new) → (f < MAX_FILES → Opened old f append r new) → Opens old f append h new
+opens_by old new f append r h is none opened = elim (few f MAX_FILES) [
+  | inl small ↦ subst (λ (x : Result HandleSeen Refusal). Opened old f append x new) is (opened small)
+  | inr large ↦ absurd (let wrong : Ok h ≡ Err NoSuchFile = sym is ∙ (none large).0 in cc)
+]
+  where
+    few : (a b : ℕ) → (a < b) ⊎ (b ≤ a)
+    few a b = grind arith
+
+-- the table has room for more
+pub table_reserved : (s : SoloSeen) (old new : Slab HandleSeen) → new ≡ record old { capacity = new.capacity } → IsTable s old.slots → IsTable s new.slots
+table_reserved s old new e t = subst (IsTable s) (sym (ap (λ (x : Slab HandleSeen). x.slots) e)) t
+
 -- a handle is closed
 module _ (old new : SoloSeen) (before after : Table) (n : ℕ) (h : HandleSeen) (t : IsTable old before) (was : at before n ≡ Some h)
     (step : Step old.world.core (event.Close (record { 0 = h.number })) reply.Closed new.world.core) (errors : new.errors ≡ old.errors)
@@ -254,3 +325,24 @@ module _ (old new : SoloSeen) (before after : Table) (n : ℕ) (h : HandleSeen) 
     named = λ m x e. (let l = left m x e in t.named m x l.0 ∙ sym (kept x l.1).1.0);
     apart = λ a b x y e k same. t.apart a b x y (left a x e).0 (left b y k).0 same;
   }
+
+pub closed_reply : (r : Result Unit (Refusal × HandleSeen)) → IfErr r (λ _. ⊥) → close_reply r ≡ reply.Closed
+closed_reply (Ok _) well = refl
+closed_reply (Err e) well = absurd well
+
+-- ---- where the files stand
+
+pub found_now : (s : SoloSeen) (f p : ℕ) (c : Cataloged) (r : Result (Option Extent) Refusal) → standing.Tells s.world.core c → IfOk r (λ next. IfSome next (IsNext c f p)) → IfOk r (λ next. IfSome next (IsExtentNow s f p))
+found_now s f p c (Ok (Some e)) told next = (c, told, next)
+found_now s f p c (Ok None) told next = tt
+found_now s f p c (Err why) told next = tt
+
+pub none_now : (s : SoloSeen) (f p : ℕ) (c : Cataloged) (r : Result (Option Extent) Refusal) → standing.Tells s.world.core c → IfOk r (λ next. IfNone next (NoneFrom c.files.spots f p)) → IfOk r (λ next. IfNone next (NoExtentNow s f p))
+none_now s f p c (Ok (Some e)) told next = tt
+none_now s f p c (Ok None) told next = (c, told, next)
+none_now s f p c (Err why) told next = tt
+
+-- by the catalog that was made before, or by a new one
+pub told_places : (s : SoloSeen) (places : Option Cataloged) (c : Cataloged) → ArePlaces s places → (places ≡ Some c) ⊎ standing.Tells s.world.core c → standing.Tells s.world.core c
+told_places s places c known (inl before) = known c before
+told_places s places c known (inr now) = now

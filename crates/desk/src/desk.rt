@@ -1,6 +1,6 @@
 //! The files of a service, and their handles by number.
 
-ghost use Rattle.std.specs.Prelude.{◌≡◌, ◌-◌, ◌<◌, ◌≤◌, ℕ, [], None, Some, Ok, Err, IfNone, IfOk, IfSome, OnErr, OnOk, is_some, length, min, take};
+ghost use Rattle.std.specs.Prelude.{◌≡◌, ◌-◌, ◌<◌, ◌≤◌, ◌⊎◌, ℕ, [], None, Some, Ok, Err, IfNone, IfOk, IfSome, OnErr, OnOk, is_some, length, min, take};
 ghost use Rattle.pc_types.specs.Files as plain;
 ghost use Rattle.pc_types.specs.declared.refusal.Refusal.TheVariants.{BadHandle};
 ghost use Rattle.machine.specs.State.{file_at};
@@ -8,6 +8,7 @@ ghost use Rattle.machine.specs.declared.event.Event.TheVariants as event;
 ghost use Rattle.blockmap.specs.Keys.{NoneFrom};
 ghost use Rattle.catalog.specs.Extents.{IsNext};
 ghost use Rattle.cachecore.specs.Replies.{created};
+ghost use Rattle.cachecore.specs.Standing as standing;
 ghost use Rattle.runs.specs.Restart.{IsClean};
 ghost use Rattle.filesvc.specs.Seen.{HandleSeen};
 ghost use Rattle.filesvc.specs.Service.{AreOnDevice, FilesAfter, IsOnDevice, Serves, Tells, files};
@@ -247,10 +248,7 @@ impl<D: BlockDevice> Desk<D> {
         ensures here { OnOk result (file.0 < length self.old.service.world.core.files) }
         ensures same { self.new ≡ self.old }
     {
-        let places = match self.places.take() {
-            Some(places) => places,
-            None => self.solo.catalog()?,
-        };
+        let places = places_of(&mut self.places, &self.solo)?;
         let next = next_of(&places, file, from);
         self.places = Some(places);
         next
@@ -262,6 +260,20 @@ fn forget(places: &mut Option<Catalog>)
     ensures { places.new ≡ None }
 {
     drop(places.take());
+}
+
+/// The catalog that was made before, or a new one. It is taken out.
+fn places_of<D: BlockDevice>(
+    places: &mut Option<Catalog>,
+    solo: &Solo<D>,
+) -> Result<Catalog, Refusal>
+    ensures told { IfOk result (λ c. (places.old ≡ Some c) ⊎ standing.Tells solo.now.world.core c) }
+    ensures out { places.new ≡ None }
+{
+    match places.take() {
+        Some(places) => Ok(places),
+        None => solo.catalog(),
+    }
 }
 
 /// The file's next extent in a catalog. `NoSuchFile`.
