@@ -29,7 +29,7 @@ pub(crate) fn refused(refusal: Refusal) -> i64
 }
 
 /// Why a list of files is refused: the number of a refusal, where one says it.
-pub(crate) fn unfit(why: Misfit) -> i64
+pub(crate) fn misfit(why: Misfit) -> i64
     ensures { result ≡ misfit_answer why }
 {
     match why {

@@ -11,11 +11,11 @@ ghost use Rattle.desk.specs.Seen.{DeskSeen, IsExtentNow, NoExtentNow};
 ghost use Rattle.pcache_c.specs.Answers.{bad_handle, refusal_answer};
 ghost use Rattle.pcache_c.specs.Caches.{IsAdoptRefusal, IsAdopted};
 
-use crate::answers::{no_cache, refused, unfit};
+use crate::answers::{misfit, no_cache, refused};
 use crate::cache::Cache;
 use crate::files::nothing;
 use crate::held::Held;
-use catalog::{Catalog, Extent};
+use catalog::{Catalog, Extent, Misfit};
 use listing::{FileExtent, Unfit, catalog_of};
 use pc_types::{FileId, Geometry, PageIndex, Refusal};
 use std::alloc::Global;
@@ -103,10 +103,21 @@ pub extern "C" fn pcache_adopt(
     };
     match catalog_of(alloc, &geometry, sizes, extents) {
         Ok(catalog) => keep(alloc, held, Cache::by_jobs(alloc, &geometry, catalog)),
-        Err(Unfit::File(place, why)) | Err(Unfit::Extent(place, why)) => {
+        Err(unfit) => {
+            let (place, why) = told(unfit);
             *wrong = place;
-            unfit(why)
+            misfit(why)
         }
+    }
+}
+
+/// Where in its list stands what is unfit, and why it is.
+fn told(unfit: Unfit) -> (u64, Misfit)
+    ensures { (unfit ≡ Unfit.File result.0 result.1) ⊎ (unfit ≡ Unfit.Extent result.0 result.1) }
+{
+    match unfit {
+        Unfit::File(place, why) => (place, why),
+        Unfit::Extent(place, why) => (place, why),
     }
 }
 

@@ -1,6 +1,6 @@
 //! The calls on files and handles.
 
-ghost use Rattle.std.specs.Prelude.{◌≡◌, ◌-◌, ℕ, pos, negsuc, None, Some, Err, IfErr, IsOk, length, take, min};
+ghost use Rattle.std.specs.Prelude.{◌≡◌, ◌-◌, ℕ, pos, None, Some, Err, IfErr, IsOk, length, take, min};
 ghost use Rattle.std.specs.Option.{IsSomeAnd};
 ghost use Rattle.pc_types.specs.Files as plain;
 ghost use Rattle.machine.specs.State.{file_at};
@@ -41,7 +41,6 @@ pub extern "C" fn pcache_open(alloc: Global, held: &mut Held, file: u64) -> i64
     ensures none { held.old.value ≡ None → (result ≡ bad_handle) × (held.new.value ≡ None) }
     ensures opened { (old : DeskSeen) (n : ℕ) → held.old.value ≡ Some old → result ≡ pos n → (handle_at old n ≡ None) × IsSomeAnd held.new.value (λ new. (h : HandleSeen) × (handle_at new n ≡ Some h) × (h.file ≡ file)) }
     ensures others { (old : DeskSeen) (n : ℕ) → held.old.value ≡ Some old → result ≡ pos n → IsSomeAnd held.new.value (λ new. OthersKept old new n) }
-    ensures refused { (old : DeskSeen) (n : ℕ) → held.old.value ≡ Some old → result ≡ negsuc n → IsSomeAnd held.new.value (λ new. new.handles ≡ old.handles) }
     ensures files { (old : DeskSeen) → held.old.value ≡ Some old → Tells old.service → IsSomeAnd held.new.value (λ new. (files new.service).files ≡ (files old.service).files) }
 {
     let Some(mut cache) = held.take_out(alloc) else {
@@ -112,7 +111,6 @@ pub extern "C" fn pcache_pwrite(
 ) -> i64
     ensures unknown { opened_at held.old.value handle ≡ None → (result ≡ bad_handle) × (held.new.value ≡ held.old.value) }
     ensures file { (old : DeskSeen) (h : HandleSeen) (n : ℕ) → held.old.value ≡ Some old → handle_at old handle ≡ Some h → Tells old.service → result ≡ pos n → IsSomeAnd held.new.value (λ new. files new.service ≡ with_file (files old.service) h.file (plain.pwrite (file_of old h.file) offset (take n bytes.now))) }
-    ensures refused { (old : DeskSeen) (n : ℕ) → held.old.value ≡ Some old → Tells old.service → result ≡ negsuc n → IsSomeAnd held.new.value (λ new. files new.service ≡ files old.service) }
     ensures kept { (old : DeskSeen) → held.old.value ≡ Some old → IsSomeAnd held.new.value (λ new. new.handles ≡ old.handles) }
 {
     let Some(mut cache) = held.take_out(alloc) else {
@@ -134,7 +132,6 @@ pub extern "C" fn pcache_pwrite(
 pub extern "C" fn pcache_truncate(alloc: Global, held: &mut Held, handle: u64, size: u64) -> i64
     ensures unknown { opened_at held.old.value handle ≡ None → (result ≡ bad_handle) × (held.new.value ≡ held.old.value) }
     ensures file { (old : DeskSeen) (h : HandleSeen) (n : ℕ) → held.old.value ≡ Some old → handle_at old handle ≡ Some h → Tells old.service → result ≡ pos n → IsSomeAnd held.new.value (λ new. files new.service ≡ with_file (files old.service) h.file (plain.cut (file_of old h.file) size)) }
-    ensures refused { (old : DeskSeen) (n : ℕ) → held.old.value ≡ Some old → Tells old.service → result ≡ negsuc n → IsSomeAnd held.new.value (λ new. files new.service ≡ files old.service) }
     ensures kept { (old : DeskSeen) → held.old.value ≡ Some old → IsSomeAnd held.new.value (λ new. new.handles ≡ old.handles) }
 {
     let Some(mut cache) = held.take_out(alloc) else {
