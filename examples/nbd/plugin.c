@@ -17,6 +17,7 @@
 #include <stdlib.h>
 #include <string.h>
 #include <sys/stat.h>
+#include <unistd.h>
 
 #define THREAD_MODEL NBDKIT_THREAD_MODEL_SERIALIZE_ALL_REQUESTS
 
@@ -65,13 +66,21 @@ static int64_t make_cache(struct disk *d)
 	return made < 0 ? made : pcache_open(&d->cache, 0);
 }
 
+/* Has all in the file, whose last block is cut to its size again. */
+static int64_t end(struct disk *d)
+{
+	int64_t done = disk_sync_all(d);
+
+	return done < 0 ? done : ftruncate(d->fd, (off_t)size) ? PCACHE_IO : 0;
+}
+
 static int64_t work_on(struct disk *d, uint64_t handle, const struct request *r)
 {
 	switch (r->work) {
 	case READ: return disk_pread(d, handle, r->offset, r->bytes, r->count);
 	case WRITE: return disk_pwrite(d, handle, r->offset, r->bytes, r->count);
 	case FLUSH: return disk_fsync(d, handle);
-	default: return disk_sync_all(d);
+	default: return end(d);
 	}
 }
 
