@@ -375,6 +375,7 @@ static void restart(struct disk *d, const char *path)
 /* Random calls by many handles that come and go, beside plain copies of the files. Over a file the cache begins anew now and then. */
 static void beside(const char *path, unsigned seed)
 {
+	const int calls = path ? 4000 : 20000;
 	int64_t handles[HANDLES];
 	struct disk d;
 
@@ -385,7 +386,7 @@ static void beside(const char *path, unsigned seed)
 		WANT(pcache_create(&d.cache) == f);
 	for (int k = 0; k < HANDLES; k++)
 		handles[k] = pcache_open(&d.cache, (uint64_t)(k % FILES));
-	for (int i = 0; i < 20000 && !failed; i++) {
+	for (int i = 0; i < calls && !failed; i++) {
 		int k = (int)(rnd(&seed) % HANDLES);
 		one_call(&d, (uint64_t)handles[k], k % FILES, &seed);
 		if (i % 50 == 49) {
@@ -393,7 +394,7 @@ static void beside(const char *path, unsigned seed)
 			want_closed(&d.cache, (uint64_t)handles[k]);
 			handles[k] = pcache_open(&d.cache, (uint64_t)(k % FILES));
 		}
-		if (path && i % 1000 == 999) {
+		if (path && i % 200 == 199) {
 			restart(&d, path);
 			for (int j = 0; j < HANDLES; j++)
 				handles[j] = pcache_open(&d.cache, (uint64_t)(j % FILES));
