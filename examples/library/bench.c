@@ -34,9 +34,9 @@ static double one_round(struct disk *d, int what, size_t length)
 		size_t at = place(&seed, length);
 		int64_t n = (int64_t)length;
 		if (what == 0)
-			n = pcache_pread(&d->file, at, out, length);
+			n = pcache_pread(&d->cache, 0, at, out, length);
 		else if (what == 1)
-			n = pcache_pwrite(&d->file, at, out, length);
+			n = pcache_pwrite(&d->cache, 0, at, out, length);
 		else
 			memcpy(out, plain + at, length);
 		__asm__ volatile("" : : "r"(out) : "memory");
@@ -52,9 +52,9 @@ int main(void)
 	static const size_t lengths[] = { 64, 512, 4096 };
 	struct disk d;
 
-	if (disk_open(&d, NULL, 4096, 4096, 4064, PAGES) < 0)
+	if (disk_make(&d, NULL, 4096, 4096, 4064, PAGES) < 0)
 		return 1;
-	if (disk_pwrite(&d, 0, plain, sizeof plain) < 0)
+	if (pcache_create(&d.cache) != 0 || pcache_open(&d.cache, 0) != 0 || disk_pwrite(&d, 0, 0, plain, sizeof plain) < 0)
 		return 1;
 	for (int l = 0; l < 3; l++)
 		for (int what = 0; what < 3; what++) {
@@ -65,6 +65,6 @@ int main(void)
 			}
 			printf("%s of %zu bytes: %.0f ns\n", names[what], lengths[l], best);
 		}
-	disk_close(&d);
+	disk_free(&d);
 	return 0;
 }

@@ -2,7 +2,7 @@
  * SQLite over the cache, beside SQLite's own unix VFS: 20 x 1,000 rows with rollbacks, UPDATE, DELETE, VACUUM and small updates, in four
  * journal modes. Each database is checked, and has to hold what it holds by the unix VFS.
  *
- *     workload FRAMES [FOLDER]   over files in the folder, or over memory where none is named
+ *     workload FRAMES [PATH]     over one cache, over the file at the path, or over memory where none is named
  *     workload unix FOLDER       the times of the unix VFS in this folder
  */
 #define _GNU_SOURCE
@@ -123,8 +123,8 @@ int main(int count, char **words)
 	}
 	if (count != 2 && count != 3)
 		return 2;
-	vfs_register(count == 3 ? words[2] : NULL, strtoull(words[1], NULL, 10));
+	if (vfs_register(count == 3 ? words[2] : NULL, strtoull(words[1], NULL, 10)) != SQLITE_OK)
+		return 2;
 	work_all("pcache", "");
-	vfs_release();
-	return failed;
+	return vfs_release() != SQLITE_OK || failed;
 }

@@ -1,2 +1,4 @@
 pub mod Longs
+pub mod OneFile
 pub mod Parts
+pub mod Tables

@@ -9,9 +9,11 @@ use Rattle.machine.specs.State.{file_at}
 use Rattle.runs.specs.Plain.{Plain, change, plain_file}
 use Rattle.filesvc.specs.Seen.{HandleSeen, SoloSeen}
 use Rattle.filesvc.specs.Service.{IsOpen, Keeps, Serves, Tells, files}
-use Rattle.filesvc.proofs.Callers.{changed_is, open_on}
-use Rattle.filesvc.proofs.Laws.{keeps_trans, serves_trans}
+use Rattle.filesvc.proofs.Callers.{open_on}
+use Rattle.filesvc.proofs.Laws.{keeps_refl, keeps_trans, serves_trans}
 use Rattle.desk.specs.Long.{HasRead, HasWritten}
+use Rattle.desk.specs.Seen.{with_file}
+use Rattle.desk.proofs.OneFile.{change_is, in_files, with_same, with_twice}
 use Rattle.desk.proofs.Parts.{pread_end, pread_on, pwrite_on}
 
 front : (xs ys : List ℕ) (n c : ℕ) → n ≡ length xs + c → take n (xs ++ ys) ≡ xs ++ take c ys
@@ -86,6 +88,10 @@ module _ (old : SoloSeen) (h : HandleSeen) (offset most : ℕ) (mid : SoloSeen) 
   pub read_all : done + count < end → done + count ≡ min most ((file_at old.world.core h.file).size - offset)
   read_all short = omega (arith, short, r.from, r.to, r.all, r.before.there, r.before.serves.lengths h.file)
 
+-- nothing of these bytes was written
+pub wrote_none : (s : SoloSeen) (h : HandleSeen) (offset : ℕ) (bytes : List ℕ) → HasWritten s h offset bytes s 0
+wrote_none s h offset bytes = record { keeps = keeps_refl s; within = omega arith; file = λ _. sym (with_same (files s) h.file); none = λ _ _. refl }
+
 -- a part that was written behind what was written before
 pub wrote_more : (old mid new : SoloSeen) (h : HandleSeen) (offset done end : ℕ) (bytes : List ℕ) → HasWritten old h offset bytes mid done → IsOpen old h → done < end → end ≤ length bytes
     → Keeps mid new → (Tells mid → files new ≡ change (files mid) h.number (λ file. pwrite file (offset + done) (take (end - done) (drop done bytes)))) → HasWritten old h offset bytes new end
@@ -96,11 +102,12 @@ wrote_more old mid new h offset done end bytes w here d l k after = record {
       let part = take (end - done) (drop done bytes) in
       let F = plain_file (files old) h.file in
       let len : length (take done bytes) ≡ done = omega (arith, length-take done bytes, w.within) in
-      ap (λ (p : Plain). plain_file p h.file) (after (w.keeps.tells ∙ t))
-      ∙ changed_is mid h (λ (f : List ℕ). pwrite f (offset + done) part) (open_on old mid h w.keeps here)
-      ∙ ap (λ (f : List ℕ). pwrite f (offset + done) part) (w.file t)
-      ∙ ap (λ (k : ℕ). pwrite (pwrite F offset (take done bytes)) (offset + k) part) (sym len)
-      ∙ pwrite_on F offset (take done bytes) part
-      ∙ ap (pwrite F offset) (both done bytes (end - done) end (omega (arith, d)));
+      after (w.keeps.tells ∙ t)
+      ∙ change_is mid h (λ (f : List ℕ). pwrite f (offset + done) part) (open_on old mid h w.keeps here)
+      ∙ ap (λ (p : Plain). with_file p h.file (pwrite (plain_file p h.file) (offset + done) part)) (w.file t)
+      ∙ with_twice (files old) h.file (pwrite F offset (take done bytes)) (λ (f : List ℕ). pwrite f (offset + done) part) (in_files old h here)
+      ∙ ap (λ (k : ℕ). with_file (files old) h.file (pwrite (pwrite F offset (take done bytes)) (offset + k) part)) (sym len)
+      ∙ ap (with_file (files old) h.file) (pwrite_on F offset (take done bytes) part)
+      ∙ ap (λ (xs : List ℕ). with_file (files old) h.file (pwrite F offset xs)) (both done bytes (end - done) end (omega (arith, d)));
   none = λ z. absurd (omega (arith, z, d));
 }

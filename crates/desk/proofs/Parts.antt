@@ -1,10 +1,9 @@
 -- Reads and writes of plain files in parts.
-use Rattle.std.proofs.Common.{◌≡◌, ℕ, ◌+◌, ◌-◌, ◌<◌, ◌≤◌, zero, suc, max, min, cond, ltb, leb, List, [], ◌∷◌, ◌++◌, length, get_or, take, drop, refl, sym, ap, ◌∙◌, arith, length-append, length-drop}
-use Rattle.std.specs.Prelude.{◌&&◌}
+use Rattle.std.proofs.Common.{◌≡◌, ℕ, ◌+◌, ◌-◌, ◌≤◌, suc, max, List, [], ◌∷◌, ◌++◌, length, get_or, refl, sym, ap, arith, length-append}
 use Rattle.std.proofs.lemmas.Bool.Decides.{nat_tests}
 use Rattle.std.proofs.lemmas.List.{append-nil, get_or_past}
 use Rattle.pc_types.specs.Files.{pread, pwrite}
-use Rattle.pc_types.proofs.FileLaws.{byte-append, byte-take, byte-pread, byte-pwrite, length-pread, length-pwrite}
+use Rattle.pc_types.proofs.FileLaws.{byte-append, byte-pread, byte-pwrite, length-pread, length-pwrite}
 
 -- lists of the same bytes are the same
 pub same_bytes : (f g : List ℕ) → length f ≡ length g → ((k : ℕ) → get_or f k 0 ≡ get_or g k 0) → f ≡ g

@@ -5,6 +5,7 @@ use Rattle.machine.specs.State.{file_at}
 use Rattle.runs.specs.Plain.{plain_file}
 use Rattle.filesvc.specs.Seen.{HandleSeen, SoloSeen}
 use Rattle.filesvc.specs.Service.{Keeps, Serves, Tells, files}
+use Rattle.desk.specs.Seen.{with_file}
 
 -- the first bytes of `out` were read
 pub record HasRead (old : SoloSeen) (h : HandleSeen) (offset most : ℕ) (new : SoloSeen) (out : List ℕ) (done : ℕ) : Type 0 where
@@ -19,5 +20,5 @@ pub record HasRead (old : SoloSeen) (h : HandleSeen) (offset most : ℕ) (new : 
 pub record HasWritten (old : SoloSeen) (h : HandleSeen) (offset : ℕ) (bytes : List ℕ) (new : SoloSeen) (done : ℕ) : Type 0 where
   pub keeps : Keeps old new
   pub within : done ≤ length bytes
-  pub file : Tells old → plain_file (files new) h.file ≡ plain.pwrite (plain_file (files old) h.file) offset (take done bytes)
+  pub file : Tells old → files new ≡ with_file (files old) h.file (plain.pwrite (plain_file (files old) h.file) offset (take done bytes))
   pub none : done ≡ 0 → Tells old → files new ≡ files old

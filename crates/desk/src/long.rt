@@ -5,6 +5,7 @@ ghost use Rattle.pc_types.specs.Files as plain;
 ghost use Rattle.machine.specs.State.{file_at};
 ghost use Rattle.runs.specs.Plain.{plain_file};
 ghost use Rattle.filesvc.specs.Service.{IsOpen, Keeps, Serves, Tells, files};
+ghost use Rattle.desk.specs.Seen.{with_file};
 
 use blockdev::BlockDevice;
 use filesvc::{Handle, Solo};
@@ -61,7 +62,7 @@ pub(crate) fn write_long<D: BlockDevice>(
     requires open { IsOpen solo.old handle.now }
     ensures keeps { Keeps solo.old solo.new }
     ensures count { IfOk result (λ n. n ≤ length bytes.now) }
-    ensures file { Tells solo.old → IfOk result (λ n. plain_file (files solo.new) handle.now.file ≡ plain.pwrite (plain_file (files solo.old) handle.now.file) offset (take n bytes.now)) }
+    ensures file { Tells solo.old → IfOk result (λ n. files solo.new ≡ with_file (files solo.old) handle.now.file (plain.pwrite (plain_file (files solo.old) handle.now.file) offset (take n bytes.now))) }
     ensures refused { Tells solo.old → OnErr result (files solo.new ≡ files solo.old) }
 {
     let mut done = 0;

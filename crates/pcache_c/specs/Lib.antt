@@ -1,3 +1,4 @@
 pub mod Answers
+pub mod Caches
 pub mod Owned
 pub mod Stores

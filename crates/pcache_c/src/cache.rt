@@ -1,12 +1,18 @@
-//! A file with its cache, and what C has to do for it.
+//! Files with their cache, and what C has to do for it.
 
-ghost use Rattle.std.specs.Prelude.{◌≡◌, ℕ, pos, Ok};
-ghost use Rattle.desk.specs.Seen.{DeskSeen};
+ghost use Rattle.std.specs.Prelude.{◌≡◌, ◌⊎◌, ℕ, pos, None, Ok, Err, IfErr, IfOk, [], false};
+ghost use Rattle.pc_types.specs.declared.refusal.Refusal.TheVariants.{BadConfig, BadHandle, Memory};
+ghost use Rattle.world.specs.Stepping.{adopted_world};
+ghost use Rattle.relay.specs.Device.{told_relay};
+ghost use Rattle.desk.specs.Seen.{DeskSeen, handle_at};
+ghost use Rattle.pcache_c.specs.Answers.{bad_handle};
+ghost use Rattle.pcache_c.specs.Stores.{told_of};
 
 use crate::answers::{WAITS, answer, io_code};
 use crate::store::Store;
 use blockdev::MemDevice;
-use desk::Desk;
+use catalog::Catalog;
+use desk::{Desk, HandleNo};
 use filesvc::Solo;
 use pc_types::{ErrCode, Geometry, Refusal};
 use relay::{AGAIN, Queue, RelayDevice, Task};
@@ -15,7 +21,7 @@ use std::cell::RefCell;
 use std::marker::Model;
 use std::rc::Rc;
 
-/// A file over a device, and the queue at the device's other end where C makes its calls.
+/// The files of a device, and the queue at the device's other end where C makes its calls.
 #[derive(Drop)]
 pub struct Cache {
     pub(crate) desk: Desk<Store>,
@@ -45,31 +51,48 @@ impl Model for Cache {
 }
 
 impl Cache {
-    /// A file over blocks in memory.
-    pub fn in_memory(alloc: Global, geometry: &Geometry) -> Result<Cache, Refusal> {
+    /// No files, over blocks in memory.
+    pub fn in_memory(alloc: Global, geometry: &Geometry) -> Result<Cache, Refusal>
+        ensures { IfOk result (λ c. c.handles ≡ []) }
+    {
         let device = MemDevice::new(alloc, geometry.page(), geometry.blocks())?;
-        Cache::over(alloc, geometry, Store::Memory(device), None)
+        let catalog = Catalog::new(alloc, geometry);
+        Cache::over(alloc, geometry, catalog, Store::Memory(device), None)
     }
 
-    /// A file over a device whose calls C makes.
-    pub fn by_jobs(alloc: Global, geometry: &Geometry) -> Result<Cache, Refusal> {
+    /// The catalog's files, over a device whose calls C makes.
+    pub fn by_jobs(alloc: Global, geometry: &Geometry, catalog: Catalog) -> Result<Cache, Refusal>
+        ensures world { IfOk result (λ c. c.service.world ≡ adopted_world geometry.now 1 catalog.files (told_relay geometry.now.page geometry.now.blocks)) }
+        ensures handles { IfOk result (λ c. c.handles ≡ []) }
+        ensures refused { IfErr result (λ r. (r ≡ BadConfig) ⊎ (r ≡ Memory)) }
+    {
         let queue = Rc::new(alloc, RefCell::new(Queue::new(alloc)))?;
         let device = RelayDevice::new(queue.clone()?, geometry.page(), geometry.blocks());
-        Cache::over(alloc, geometry, Store::Relay(device), Some(queue))
+        Cache::over(alloc, geometry, catalog, Store::Relay(device), Some(queue))
     }
 
     fn over(
         alloc: Global,
         geometry: &Geometry,
+        catalog: Catalog,
         device: Store,
         queue: Option<Rc<RefCell<Queue>>>,
-    ) -> Result<Cache, Refusal> {
-        let Ok(solo) = Solo::new(alloc, geometry, 1, device) else {
-            return Err(Refusal::Memory);
+    ) -> Result<Cache, Refusal>
+        ensures world { IfOk result (λ c. c.service.world ≡ adopted_world geometry.now 1 catalog.files (told_of device)) }
+        ensures handles { IfOk result (λ c. c.handles ≡ []) }
+        ensures refused { IfErr result (λ r. (r ≡ BadConfig) ⊎ (r ≡ Memory)) }
+    {
+        let solo = match Solo::over(alloc, geometry, 1, catalog, device) {
+            Ok(solo) => solo,
+            Err((refusal, catalog, device)) => {
+                // each by a call, since the check is slow where they go out of scope
+                drop(catalog);
+                drop(device);
+                return Err(refusal);
+            }
         };
-        let desk = Desk::over(solo, geometry.page())?;
         Ok(Cache {
-            desk,
+            desk: Desk::new(alloc, solo, geometry.page()),
             is_by_jobs: queue.is_some(),
             queue,
             most: geometry.dirty_limit(),
@@ -77,8 +100,15 @@ impl Cache {
         })
     }
 
+    /// Whether a call by this handle waits, since so many writes wait for C.
+    pub fn must_wait(&self, handle: HandleNo) -> bool
+        ensures { handle_at self.now handle.0 ≡ None → result ≡ false }
+    {
+        self.is_full() && self.desk.is_open(handle)
+    }
+
     /// Whether so many writes wait that a call waits for C to make some.
-    pub fn is_full(&self) -> bool {
+    fn is_full(&self) -> bool {
         let Some(queue) = &self.queue else {
             return false;
         };
@@ -91,6 +121,7 @@ impl Cache {
     /// What a call answers that ended so. The code of a failed device call is noted, and a call that the device could not answer yet waits.
     pub fn answer(&mut self, done: Result<u64, Refusal>) -> i64
         ensures counted { (n : ℕ) → result ≡ pos n → done ≡ Ok n }
+        ensures unknown { done ≡ Err BadHandle → result ≡ bad_handle }
         ensures same { self.new ≡ self.old }
     {
         let code = io_code(&done);

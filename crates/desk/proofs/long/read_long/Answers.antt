@@ -1,6 +1,6 @@
-use Rattle.std.proofs.Common.{rules, ◌≡◌, ◌-◌, ◌+◌, ◌<◌, ◌≤◌, ℕ, length, take, arith, sym, ap, ◌∙◌, refl}
+use Rattle.std.proofs.Common.{rules}
 use Rattle.filesvc.proofs.Laws.{serves_trans}
-use Rattle.desk.proofs.Longs.{ReadsPart, read_all, read_last, read_more}
+use Rattle.desk.proofs.Longs.{read_last, read_more}
 use Rattle.desk.proofs.long.read_long.Goals as goal
 
 pub returns-in_err-count-clause-serves : goal.returns-in_err-count-clause-serves

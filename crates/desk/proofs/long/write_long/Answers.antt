@@ -1,4 +1,4 @@
-use Rattle.std.proofs.Common.{rules, ◌≡◌, ◌-◌, ◌+◌, ℕ, length, take, arith, sym, ap, ◌∙◌, refl}
+use Rattle.std.proofs.Common.{rules}
 use Rattle.filesvc.proofs.Laws.{keeps_trans}
 use Rattle.desk.proofs.Longs.{wrote_more}
 use Rattle.desk.proofs.long.write_long.Goals as goal
