@@ -1,0 +1,4 @@
+pub mod Calls
+pub mod Configs
+pub mod Names
+pub mod Seats

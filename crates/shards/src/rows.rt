@@ -1,0 +1,49 @@
+//! Seats of callers, made shard by shard.
+
+ghost use Rattle.std.specs.Prelude.{◌≡◌, ◌++◌, ◌∷◌, [], All, IfOk, OnOk, List, if◌then◌else◌, is_ok, vec_len};
+ghost use Rattle.shards.specs.Names.{CacheNames};
+ghost use Rattle.shards.specs.Seats.{AreOf, IsOfCache};
+
+use held::log::Seat;
+use crate::seat::ShardSeat;
+use std::alloc::{AllocError, Global};
+
+/// So many callers, without a seat at any shard.
+#[tactic(auto, using(crate::proofs::Rowing::seated_nowhere))]
+pub(crate) fn without_shards(alloc: Global, count: u64) -> Result<Vec<ShardSeat>, AllocError>
+    ensures len { IfOk result (λ rows. vec_len rows ≡ count) }
+    ensures empty { IfOk result (λ rows. All (AreOf []) rows.items) }
+{
+    let mut rows = Vec::new(alloc);
+    for _ in 0..count {
+        rows.push(ShardSeat {
+            seats: Vec::new(alloc),
+        })?;
+    }
+    Ok(rows)
+}
+
+/// Gives each caller a seat at one more shard.
+pub(crate) fn seat_all(rows: &mut Vec<ShardSeat>, mut seats: Vec<Seat>) -> Result<(), AllocError>
+    requires { vec_len seats ≡ vec_len rows.old }
+    ensures len { vec_len rows.new ≡ vec_len rows.old }
+    ensures seated { (names : List CacheNames) (n : CacheNames) → All (AreOf names) rows.old.items → All (IsOfCache n) seats.items → OnOk result (All (AreOf (names ++ n ∷ [])) rows.new.items) }
+{
+    for row in 0..rows.len() {
+        let Some(seat) = seats.pop() else {
+            unreachable!()
+        };
+        rows[row].add(seat)?;
+    }
+    Ok(())
+}
+
+impl ShardSeat {
+    /// Gives the caller a seat at one more shard.
+    fn add(&mut self, seat: Seat) -> Result<(), AllocError>
+        ensures { self.new ≡ (if is_ok result then self.old ++ seat ∷ [] else self.old) }
+    {
+        self.seats.push(seat)?;
+        Ok(())
+    }
+}
