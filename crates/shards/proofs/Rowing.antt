@@ -5,7 +5,7 @@ use Rattle.std.proofs.lemmas.List.{get_or-set_same, get_or-set_other, get_or_app
 use Rattle.std.proofs.Math.Seq.{get_or-append_seam}
 use Rattle.held.specs.Shown.{SeatSeen}
 use Rattle.shards.specs.Names.{CacheNames, names_at, no_names}
-use Rattle.shards.specs.Seats.{AreOf, IsOfCache, no_seat, part}
+use Rattle.shards.specs.Seats.{AreOf, AreSeated, IsOfCache, no_seat, part}
 use Rattle.shards.proofs.Seated.{same_or_else}
 
 -- with a seat at one more cache
@@ -19,9 +19,9 @@ seated_more names n seats s are is = record {
     last : (k : ℕ) → k ≡ length names → IsOfCache (names_at (names ++ n ∷ []) k) (part (seats ++ s ∷ []) k)
     last k same =
         let ours : names_at (names ++ n ∷ []) k ≡ n =
-            ap (names_at (names ++ n ∷ [])) same ∙ get_or-append_seam names n [] no_names in
+        ap (names_at (names ++ n ∷ [])) same ∙ get_or-append_seam names n [] no_names in
         let mine : part (seats ++ s ∷ []) k ≡ s =
-            ap (part (seats ++ s ∷ [])) (same ∙ sym are.count) ∙ get_or-append_seam seats s [] no_seat in
+        ap (part (seats ++ s ∷ [])) (same ∙ sym are.count) ∙ get_or-append_seam seats s [] no_seat in
         subst (λ (x : CacheNames). IsOfCache x (part (seats ++ s ∷ []) k)) (sym ours) (subst (IsOfCache n) (sym mine) is)
 
     before : (k : ℕ) → k < length (names ++ n ∷ []) → k ≢ length names
@@ -32,7 +32,7 @@ seated_more names n seats s are is = record {
         let ours : names_at (names ++ n ∷ []) k ≡ names_at names k = get_or_append_left names (n ∷ []) no_names k under in
         let mine : part (seats ++ s ∷ []) k ≡ part seats k = get_or_append_left seats (s ∷ []) no_seat k here in
         subst (λ (x : CacheNames). IsOfCache x (part (seats ++ s ∷ []) k)) (sym ours)
-            (subst (IsOfCache (names_at names k)) (sym mine) (are.each k under))
+        (subst (IsOfCache (names_at names k)) (sym mine) (are.each k under))
 
 -- the callers before this one have it, and the others not yet
 pub record AreSeatedTo (i : ℕ) (names : List CacheNames) (n : CacheNames) (rows : List (List SeatSeen)) : Type 0 where
@@ -64,7 +64,7 @@ seated_one i names n rows s e within to is = record {
         → AreOf (names ++ n ∷ []) (slice_index_or (slice_set rows i new) k d)
     now k d less same =
         let at : slice_index_or (slice_set rows i new) k d ≡ new =
-            ap (λ j. slice_index_or (slice_set rows i new) j d) same ∙ get_or-set_same rows i new d within in
+        ap (λ j. slice_index_or (slice_set rows i new) j d) same ∙ get_or-set_same rows i new d within in
         let stands : i ≤ i = omega arith in
         subst (AreOf (names ++ n ∷ [])) (sym at) (seated_more names n (slice_index_or rows i e) s (to.left i e within stands) is)
 
@@ -90,3 +90,10 @@ seated_each i names n rows over to = λ k d less. to.done k d less (omega (arith
 -- a caller without seats
 pub seated_nowhere : AreOf [] []
 seated_nowhere = record { count = refl; each = λ k less. absurd (omega (arith, less)) }
+
+-- so each seat has its table
+pub all_seated : (names : List CacheNames) (rows : List (List SeatSeen)) → All (AreOf names) rows → All (AreSeated (names_at names)) rows
+all_seated names rows are = λ k d less. one (slice_index_or rows k d) (are k d less)
+  where
+    one : (seats : List SeatSeen) → AreOf names seats → AreSeated (names_at names) seats
+    one seats is = λ k less named. (is.each k (subst (λ n. k < n) is.count less)).1

@@ -26,11 +26,11 @@ seated_on names k before after seated only goes = λ j less. ⊎_elim (here j le
         let back : part before k ≡ part before j = ap (part before) (sym same) in
         ap (λ (s : SeatSeen). s.table) moved ∙ goes.same.0 ∙ ap (λ (s : SeatSeen). s.table) back
         ∙ seated j (long j less)
-            (ap (λ (s : SeatSeen). s.name) (sym back) ∙ sym goes.same.1 ∙ ap (λ (s : SeatSeen). s.name) (sym moved) ∙ named)
+        (ap (λ (s : SeatSeen). s.name) (sym back) ∙ sym goes.same.1 ∙ ap (λ (s : SeatSeen). s.name) (sym moved) ∙ named)
 
     there : (j : ℕ) → j < length after → j ≢ k → (part after j).name ≡ (names j).name → (part after j).table ≡ (names j).table
     there j less other named =
         let moved : part after j ≡ part before j =
-            ap (λ seats. part seats j) only ∙ get_or-set_other before k j (part after k) no_seat other in
+        ap (λ seats. part seats j) only ∙ get_or-set_other before k j (part after k) no_seat other in
         ap (λ (s : SeatSeen). s.table) moved
         ∙ seated j (long j less) (ap (λ (s : SeatSeen). s.name) (sym moved) ∙ named)

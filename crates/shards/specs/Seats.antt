@@ -1,7 +1,9 @@
 -- A caller's seats, one at each shard.
-use Rattle.std.specs.Prelude.{◌≡◌, ◌<◌, ◌&&◌, ◌==◌, ℕ, Bool, List, [], length, nat_lt, slice_index_or, slice_set}
+use Rattle.std.specs.Prelude.{◌≡◌, ◌<◌, ◌&&◌, ◌==◌, ℕ, Bool, List, [], IfSome, length, nat_lt, slice_index_or, slice_set}
 use Rattle.held.specs.Names.{no_table}
 use Rattle.held.specs.Shown.{SeatSeen}
+use Rattle.shared.specs.Workers.{IsWorkerOf}
+use Rattle.shared.specs.declared.worker.Worker.{Worker}
 use Rattle.shards.specs.Names.{CacheNames, names_at}
 
 abbrev pub no_seat : SeatSeen
@@ -32,3 +34,7 @@ IsOfCache n s = (s.name ≡ n.name) × (s.table ≡ n.table)
 pub record AreOf (names : List CacheNames) (seats : List SeatSeen) : Type 0 where
   pub count : length seats ≡ length names
   pub each : (k : ℕ) → k < length names → IsOfCache (names_at names k) (part seats k)
+
+-- a worker of the cache of these names
+abbrev pub IsWorkerAt : CacheNames → Worker → Type 0
+IsWorkerAt n w = IfSome n.ring (λ ring. IsWorkerOf ring n.name n.table n.deeds n.sizes w)

@@ -140,7 +140,12 @@ impl<B: ShardNaming, D: BlockDevice, T: Trail> ShardedCache<B, D, T> {
         ensures missed { FillsMissed (event.Read handle.now.handle.number offset (length out.old)) (part seat.old handle.now.shard) (part seat.new handle.now.shard) }
         ensures first { OwnFirst (event.Read handle.now.handle.number offset (length out.old)) (part seat.old handle.now.shard) (part seat.new handle.now.shard) }
     {
-        at_shard!(self, handle.shard, pread(rt, seat, handle, offset, out), Err(without_slip(Refusal::BadHandle)))
+        at_shard!(
+            self,
+            handle.shard,
+            pread(rt, seat, handle, offset, out),
+            Err(without_slip(Refusal::BadHandle))
+        )
     }
 
     /// Writes the bytes into the file from `offset` on, all of them, also by an appending handle. A gap before them reads as zeros. A
@@ -172,6 +177,11 @@ impl<B: ShardNaming, D: BlockDevice, T: Trail> ShardedCache<B, D, T> {
         ensures missed { FillsMissed (event.Write handle.now.handle.number offset bytes.now) (part seat.old handle.now.shard) (part seat.new handle.now.shard) }
         ensures first { OwnFirst (event.Write handle.now.handle.number offset bytes.now) (part seat.old handle.now.shard) (part seat.new handle.now.shard) }
     {
-        at_shard!(self, handle.shard, pwrite(rt, seat, handle, offset, bytes), Err(without_slip(Refusal::BadHandle)))
+        at_shard!(
+            self,
+            handle.shard,
+            pwrite(rt, seat, handle, offset, bytes),
+            Err(without_slip(Refusal::BadHandle))
+        )
     }
 }

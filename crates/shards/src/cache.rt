@@ -31,7 +31,7 @@ where
     ghost few: { shards ≤ 3 },
 }
 
-impl<B: ShardNaming, D: BlockDevice, T: Trail> ShardedCache<B, D, T> {
+impl<B: ShardNaming, D: BlockDevice, T: Trail + Drop> ShardedCache<B, D, T> {
     /// The cache of these parts. They were made before, so that a caller could pick B.
     pub fn of(alloc: Global, parts: ShardParts<D, T>) -> ShardedCache<B, D, T>
         requires shards { B.shards ≡ length parts }
@@ -50,7 +50,9 @@ impl<B: ShardNaming, D: BlockDevice, T: Trail> ShardedCache<B, D, T> {
             place_2,
         }
     }
+}
 
+impl<B: ShardNaming, D: BlockDevice, T: Trail> ShardedCache<B, D, T> {
     /// How many shards it has.
     pub fn shards(&self) -> u64
         ensures { result ≡ B.shards }

@@ -1,17 +1,16 @@
 //! What a cache of shards may be made of.
 
-ghost use Rattle.std.specs.Prelude.{◌≡◌, drop};
+ghost use Rattle.std.specs.Prelude.{◌≡◌};
 ghost use Rattle.shards.specs.Configs.{are_distinct, is_among};
 
 /// Whether no two names are equal.
 pub(crate) fn are_distinct(names: &[u64]) -> bool
     ensures { result ≡ are_distinct names.now }
 {
-    let mut is_so = true;
-    for (k, name) in names.iter().enumerate() {
-        is_so = is_so && !is_among(*name, &names[k + 1..]);
+    match names.split_first() {
+        Some((name, others)) => !is_among(*name, others) && are_distinct(others),
+        None => true,
     }
-    is_so
 }
 
 /// Whether the name is among these.

@@ -160,7 +160,12 @@ impl<B: ShardNaming, D: BlockDevice, T: Trail> ShardedCache<B, D, T> {
         ensures full { shard < B.shards → is_of (B.names shard).name seat.old shard ≡ true → IfErr result (IsByShard (IsFullIfNoSlip (part seat.old shard) (part seat.new shard))) }
     {
         let shards = self.shards;
-        at_shard!(self, shard, create(rt, seat, shards), Err(CreateDenied::NoShard))
+        at_shard!(
+            self,
+            shard,
+            create(rt, seat, shards),
+            Err(CreateDenied::NoShard)
+        )
     }
 
     /// Opens a file. File F stands in shard F mod n, as its file F / n. The handle's cursor is at the beginning; with `append` its writes go to the end of the file.
@@ -190,7 +195,12 @@ impl<B: ShardNaming, D: BlockDevice, T: Trail> ShardedCache<B, D, T> {
     {
         let shard = file.0 % self.shards;
         let own = FileId(file.0 / self.shards);
-        at_shard!(self, shard, open(rt, seat, own, append), Err(without_slip(Refusal::NoSuchFile)))
+        at_shard!(
+            self,
+            shard,
+            open(rt, seat, own, append),
+            Err(without_slip(Refusal::NoSuchFile))
+        )
     }
 
     /// Closes a handle. It comes back where that is refused, as by `Busy` while a sync by it is in progress.
@@ -217,7 +227,12 @@ impl<B: ShardNaming, D: BlockDevice, T: Trail> ShardedCache<B, D, T> {
         ensures back { IfErr result (λ d. d.1 ≡ handle) }
     {
         let shard = handle.shard;
-        at_shard!(self, shard, close_handle(rt, seat, handle), Err((without_slip(Refusal::BadHandle), handle)))
+        at_shard!(
+            self,
+            shard,
+            close_handle(rt, seat, handle),
+            Err((without_slip(Refusal::BadHandle), handle))
+        )
     }
 }
 

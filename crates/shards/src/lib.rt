@@ -19,3 +19,4 @@ mod place;
 mod rows;
 pub mod seat;
 mod sync;
+mod work;

@@ -45,16 +45,17 @@ impl<D: BlockDevice, T: Trail> Model for OneParts<D, T> {
     ghost Value = { CacheNames };
 
     ghost view = { λ o. record {
-        name = o.parts.name;
-        table = o.parts.held.log.table;
-        board = o.parts.board;
-        sizes = o.parts.geometry;
-        seats = o.parts.held.log.made;
-        whole = o.parts.held.log.room;
-        blocks = o.parts.deeds.blocks;
-        deeds = o.parts.deeds.table;
-        told = o.parts.deeds.told;
-        ring = Some o.parts.ring } };
+      name = o.parts.name;
+      table = o.parts.held.log.table;
+      board = o.parts.board;
+      sizes = o.parts.geometry;
+      seats = o.parts.held.log.made;
+      whole = o.parts.held.log.room;
+      blocks = o.parts.deeds.blocks;
+      deeds = o.parts.deeds.table;
+      told = o.parts.deeds.told;
+      ring = Some o.parts.ring;
+    } };
 
     ghost invariant = { λ o.
         IsLocked o.parts.name o.parts.held.log.table o.parts.board o.parts.geometry o.parts.held.log.made o.parts.held.log.room o.parts.held
@@ -80,7 +81,9 @@ impl<D: BlockDevice, T: Trail> OneParts<D, T> {
     {
         self.parts
     }
+}
 
+impl<D: BlockDevice, T: Trail + Drop> OneParts<D, T> {
     /// Makes the parts of a cache, with so many seats.
     fn make<R: Wait>(
         rt: &R,
@@ -138,10 +141,11 @@ pub struct Sources<D, T> {
     pub devices: Vec<D>,
 }
 
-impl<D: BlockDevice, T: Trail> ShardParts<D, T> {
+impl<D: BlockDevice, T: Trail + Drop> ShardParts<D, T> {
     /// The parts of a cache of as many shards as there are names, and so many callers' seats. Shard k has name, trail and device k.
     /// Refused by `BadConfig` where there are no shards or more than 16, where two names are equal, where the trails or devices are not as
     /// many, and where there are no seats or more than 64; all comes back as it was then. Else by want of memory.
+    #[tactic(auto, using(crate::proofs::Rowing::all_seated))]
     pub fn make<R: Wait>(
         rt: &R,
         alloc: Global,
@@ -153,6 +157,7 @@ impl<D: BlockDevice, T: Trail> ShardParts<D, T> {
         ensures named { IfOk result (λ r. each (λ n. n.name) r.0 ≡ sources.names.items) }
         ensures sized { IfOk result (λ r. All (λ n. n.sizes ≡ geometry.now) r.0) }
         ensures seats { IfOk result (λ r. (vec_len r.1 ≡ seat_count) × All (AreOf r.0) r.1.items) }
+        ensures seated { IfOk result (λ r. All (AreSeated (names_at r.0)) r.1.items) }
         ensures config { OnOk result (is_config sources.names.items (vec_len sources.trails) (vec_len sources.devices) seat_count ≡ true) }
         ensures refused { IfErr result (λ e. e.refusal ≡ (if is_config sources.names.items (vec_len sources.trails) (vec_len sources.devices) seat_count then Memory else BadConfig)) }
         ensures back { IfErr result (λ e. e.refusal ≡ BadConfig → e.sources ≡ sources) }
@@ -192,7 +197,7 @@ impl<D: BlockDevice, T: Trail> Sources<D, T> {
 }
 
 /// Makes the parts of a cache of each name, and seats each caller at it.
-fn make_all<D: BlockDevice, T: Trail, R: Wait>(
+fn make_all<D: BlockDevice, T: Trail + Drop, R: Wait>(
     rt: &R,
     alloc: Global,
     geometry: &Geometry,
@@ -226,7 +231,7 @@ fn make_all<D: BlockDevice, T: Trail, R: Wait>(
 }
 
 /// Puts the parts of one more cache to the others, if they were made, and seats each caller at it.
-fn add<D: BlockDevice, T: Trail>(
+fn add<D: BlockDevice, T: Trail + Drop>(
     one: Result<(OneParts<D, T>, Vec<Seat>), Refusal>,
     made: &mut Vec<OneParts<D, T>>,
     seats: &mut Vec<ShardSeat>,

@@ -1,11 +1,11 @@
 //! Seats of callers, made shard by shard.
 
-ghost use Rattle.std.specs.Prelude.{◌≡◌, ◌++◌, ◌∷◌, [], All, IfOk, OnOk, List, if◌then◌else◌, is_ok, vec_len};
+ghost use Rattle.std.specs.Prelude.{◌≡◌, ◌+◌, ◌≤◌, ◌++◌, ◌∷◌, [], length, map, option_to_list, take, vec_capacity, All, IfNone, IfOk, OnOk, List, if◌then◌else◌, is_ok, vec_len};
 ghost use Rattle.shards.specs.Names.{CacheNames};
-ghost use Rattle.shards.specs.Seats.{AreOf, IsOfCache};
+ghost use Rattle.shards.specs.Seats.{AreOf, IsOfCache, part};
 
-use held::log::Seat;
 use crate::seat::ShardSeat;
+use held::log::Seat;
 use std::alloc::{AllocError, Global};
 
 /// So many callers, without a seat at any shard.
@@ -46,4 +46,28 @@ impl ShardSeat {
         self.seats.push(seat)?;
         Ok(())
     }
+
+    /// Takes the caller's seat at the last shard, if there is one.
+    fn take_last(&mut self) -> Option<Seat>
+        ensures items { self.old ≡ self.new ++ option_to_list result }
+        ensures none { IfNone result (length self.old ≡ 0) }
+    {
+        self.seats.pop()
+    }
+}
+
+/// Takes each caller's seat at the last shard.
+pub(crate) fn take_last(rows: &mut Vec<ShardSeat>, shard: u64, mut desk: Vec<Seat>) -> Vec<Seat>
+    requires long { All (λ row. length row ≡ shard + 1) rows.old.items }
+    requires desk { (desk.items ≡ []) × (vec_len rows.old ≤ vec_capacity desk) }
+    ensures taken { result.items ≡ map (λ row. part row shard) rows.old.items }
+    ensures left { rows.new.items ≡ map (λ row. take shard row) rows.old.items }
+{
+    for row in 0..rows.len() {
+        let Some(seat) = rows[row].take_last() else {
+            unreachable!()
+        };
+        desk.push_reserved(seat);
+    }
+    desk
 }

@@ -123,6 +123,11 @@ impl<B: ShardNaming, D: BlockDevice, T: Trail> ShardedCache<B, D, T> {
         ensures stands { IfErr result (λ d. IsNotBegun (B.names handle.old.shard).sizes (B.names handle.old.shard).name (B.names handle.old.shard).whole handle.old.handle.number (record { 0 = 0 }) (record { 0 = LAST_PAGE }) (part seat.old handle.old.shard) (part seat.new handle.old.shard) d ⊎ IsFinal (B.names handle.old.shard).sizes (B.names handle.old.shard).name (part seat.new handle.old.shard) d) }
         ensures settled { Settles (B.names handle.old.shard).name (part seat.old handle.old.shard) (part seat.new handle.old.shard) }
     {
-        at_shard!(self, handle.shard, fsync(rt, seat, handle), Err(without_slip(Refusal::BadHandle)))
+        at_shard!(
+            self,
+            handle.shard,
+            fsync(rt, seat, handle),
+            Err(without_slip(Refusal::BadHandle))
+        )
     }
 }

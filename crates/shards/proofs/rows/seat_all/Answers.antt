@@ -21,15 +21,21 @@ unreachable-requires c = let i = c.loop-row.invariant in let t = c.loop-row-test
 pub loop-row-preserved : goal.loop-row-preserved
 loop-row-preserved c =
     let i = c.loop-row.invariant in
-    let t = c.loop-row-test.true in
-    (search (rules, arith), i.1, i.2, λ names n rows seats.
-    let here = i.3 names n rows seats in
-    let popped = All-pop (IsOfCache n) c.loop-row.seats.items c.pop.new.self.items c.pop.result c.pop.ensures.items here.0 in
-    let is = subst (λ r. IfSome r (IsOfCache n)) c.in-Some.is popped.1 in
-    let grown = c.in_ok-add.ensures ∙ ap (λ seats. seats ++ c.in-Some.seat ∷ []) c.index_mut.ensures.value in
-    (popped.0, subst (λ seats. AreSeatedTo (c.loop-row.row + 1) names n (slice_set c.loop-row.rows.items c.loop-row.row seats))
-    (sym grown)
-    (seated_one c.loop-row.row names n c.loop-row.rows.items c.in-Some.seat c.index_mut.result.now (search (rules, arith)) here.1 is)))
+    let t = c.loop-row-test.true in (
+      search (rules, arith),
+      i.1,
+      i.2,
+      λ names n rows seats.
+          let here = i.3 names n rows seats in
+          let popped = All-pop (IsOfCache n) c.loop-row.seats.items c.pop.new.self.items c.pop.result c.pop.ensures.items here.0 in
+          let is = subst (λ r. IfSome r (IsOfCache n)) c.in-Some.is popped.1 in
+          let grown = c.in_ok-add.ensures ∙ ap (λ seats. seats ++ c.in-Some.seat ∷ []) c.index_mut.ensures.value in (
+            popped.0,
+            subst (λ seats. AreSeatedTo (c.loop-row.row + 1) names n (slice_set c.loop-row.rows.items c.loop-row.row seats))
+                (sym grown)
+                (seated_one c.loop-row.row names n c.loop-row.rows.items c.in-Some.seat c.index_mut.result.now (search (rules, arith)) here.1 is),
+          ),
+    )
 
 pub returns-clause-seated : goal.returns-clause-seated
 returns-clause-seated c = λ names n rows seats.

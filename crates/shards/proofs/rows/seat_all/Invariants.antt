@@ -11,4 +11,4 @@ invariant-loop-row l =
     × (vec_len l.rows ≡ l.row-end)
     × (l.row-end ≡ vec_len l.fn.rows)
     × ((names : _) (n : CacheNames) → All (AreOf names) l.fn.rows.items → All (IsOfCache n) l.fn.seats.items
-        → All (IsOfCache n) l.seats.items × AreSeatedTo l.row names n l.rows.items)
+    → All (IsOfCache n) l.seats.items × AreSeatedTo l.row names n l.rows.items)
