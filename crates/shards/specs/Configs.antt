@@ -13,5 +13,5 @@ are_distinct (n ∷ ns) = not (is_among n ns) && are_distinct ns
 -- 1 to 16 shards with different names, a trail and a device for each, and 1 to 64 seats
 abbrev pub is_config : List ℕ → ℕ → ℕ → ℕ → Bool
 is_config names trails devices seats =
-    nat_lt 0 (length names) && nat_le (length names) 4 && (trails == length names) && (devices == length names)
+    nat_lt 0 (length names) && nat_le (length names) 3 && (trails == length names) && (devices == length names)
     && are_distinct names && nat_lt 0 seats && nat_le seats 64

@@ -1,4 +1,5 @@
 pub mod Calls
 pub mod Configs
 pub mod Names
+pub mod Results
 pub mod Seats

@@ -12,7 +12,7 @@ use std::alloc::Global;
 use trail::Trail;
 
 /// How many shards a cache may have.
-pub const MAX_SHARDS: u64 = 4;
+pub const MAX_SHARDS: u64 = 3;
 
 /// A cache of shards.
 #[derive(Drop)]
@@ -21,16 +21,14 @@ where
     Shard<B, 0>: Naming,
     Shard<B, 1>: Naming,
     Shard<B, 2>: Naming,
-    Shard<B, 3>: Naming,
 {
     pub(crate) shards: u64,
     pub(crate) place_0: Place<B, D, T, 0>,
     pub(crate) place_1: Place<B, D, T, 1>,
     pub(crate) place_2: Place<B, D, T, 2>,
-    pub(crate) place_3: Place<B, D, T, 3>,
     ghost counted: { shards ≡ B.shards },
     ghost some: { 0 < shards },
-    ghost few: { shards ≤ 4 },
+    ghost few: { shards ≤ 3 },
 }
 
 impl<B: ShardNaming, D: BlockDevice, T: Trail + Drop> ShardedCache<B, D, T> {
@@ -42,7 +40,6 @@ impl<B: ShardNaming, D: BlockDevice, T: Trail + Drop> ShardedCache<B, D, T> {
         let ShardParts { mut parts } = parts;
         let shards = parts.len() as u64;
         // the last first
-        let place_3 = Place::of(alloc, &mut parts);
         let place_2 = Place::of(alloc, &mut parts);
         let place_1 = Place::of(alloc, &mut parts);
         let place_0 = Place::of(alloc, &mut parts);
@@ -51,7 +48,6 @@ impl<B: ShardNaming, D: BlockDevice, T: Trail + Drop> ShardedCache<B, D, T> {
             place_0,
             place_1,
             place_2,
-            place_3,
         }
     }
 }

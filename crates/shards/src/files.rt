@@ -1,15 +1,13 @@
 //! Files and handles.
 
-ghost use Rattle.std.specs.Prelude.{◌≡◌, ◌≢◌, ◌/◌, ◌%◌, ◌<◌, ◌≤◌, Err, IfErr, IfOk, None, Some, false, true};
-ghost use Rattle.machine.specs.declared.event.Event.TheVariants as event;
-ghost use Rattle.machine.specs.declared.event.Reply.TheVariants as reply;
+ghost use Rattle.std.specs.Prelude.{◌≡◌, ◌≢◌, ◌/◌, ◌%◌, ◌<◌, ◌≤◌, Err, IfErr, IfNone, IfOk, IfSome, None, Result, Some, false, true};
+ghost use Rattle.held.specs.Called.{Goes};
+ghost use Rattle.held.specs.declared.denied.Denied.{Denied};
+ghost use Rattle.held.specs.declared.log.Slip.{Slip};
 ghost use Rattle.pc_types.specs.declared.ids.FileId.{FileId};
 ghost use Rattle.pc_types.specs.declared.refusal.Refusal.TheVariants.{BadHandle, NoSuchFile, Stranger};
-ghost use Rattle.held.specs.Called.{Goes, Only};
-ghost use Rattle.shared.specs.Called.{Makes};
-ghost use Rattle.shared.specs.Denials.{IsDenied, IsFullIfNoSlip, MadeOne};
-ghost use Rattle.shared.specs.Polls.{Hears, IsSampled};
-ghost use Rattle.shards.specs.Calls.{IsByShard, number_of};
+ghost use Rattle.shards.specs.Calls.{Closes, Creates, Opens, number_of};
+ghost use Rattle.shards.specs.Results.{closed_in, numbered, opened_in};
 ghost use Rattle.shards.specs.Seats.{AreSeated, OnlyAt, is_of, part};
 ghost use Rattle.shards.specs.declared.denied.CreateDenied.TheVariants.{ByShard, NoShard};
 
@@ -17,52 +15,84 @@ use crate::cache::ShardedCache;
 use crate::denied::CreateDenied;
 use crate::handle::ShardHandle;
 use crate::naming::ShardNaming;
-use crate::place::{Place, at_shard};
+use crate::place::{Place, Served, at_shard};
 use crate::seat::ShardSeat;
 use blockdev::BlockDevice;
 use held::denied::{Denied, without_slip};
-use held::log::Slip;
+use held::log::{Seat, Slip};
 use pc_types::{FileId, Refusal};
+use shared::handle::Handle;
 use std::sync::Wait;
 use trail::Trail;
 
+impl<B: ShardNaming, D: BlockDevice, T: Trail, const K: u64> Served<B, D, T, K> {
+    fn create<R: Wait>(&self, rt: &R, own: &mut Seat) -> Result<(FileId, Slip), Denied>
+        requires seat { own.old.name ≡ (B.names K).name → own.old.table ≡ (B.names K).table }
+        ensures goes { Goes own.old own.new }
+        ensures foreign { own.old.name ≢ (B.names K).name → (result ≡ Err (record { refusal = Stranger; slip = None })) × (own.new ≡ own.old) }
+        ensures call { own.old.name ≡ (B.names K).name → Creates (B.names K) result own.old own.new }
+    {
+        self.cache.create(rt, own)
+    }
+
+    fn open<R: Wait>(
+        &self,
+        rt: &R,
+        own: &mut Seat,
+        file: FileId,
+        append: bool,
+    ) -> Result<(Handle, Slip), Denied>
+        requires seat { own.old.name ≡ (B.names K).name → own.old.table ≡ (B.names K).table }
+        ensures goes { Goes own.old own.new }
+        ensures foreign { own.old.name ≢ (B.names K).name → (result ≡ Err (record { refusal = Stranger; slip = None })) × (own.new ≡ own.old) }
+        ensures call { own.old.name ≡ (B.names K).name → Opens (B.names K) file append result own.old own.new }
+    {
+        self.cache.open(rt, own, file, append)
+    }
+
+    fn close_handle<R: Wait>(
+        &self,
+        rt: &R,
+        own: &mut Seat,
+        handle: Handle,
+    ) -> Result<Slip, (Denied, Handle)>
+        requires seat { own.old.name ≡ (B.names K).name → own.old.table ≡ (B.names K).table }
+        requires came { handle.cache ≡ (B.names K).name → handle.pass.board ≡ (B.names K).board }
+        ensures goes { Goes own.old own.new }
+        ensures foreign { own.old.name ≢ (B.names K).name → (result ≡ Err (record { refusal = Stranger; slip = None }, handle)) × (own.new ≡ own.old) }
+        ensures call { own.old.name ≡ (B.names K).name → Closes (B.names K) handle result own.old own.new }
+    {
+        self.cache.close_handle(rt, own, handle)
+    }
+}
+
 impl<B: ShardNaming, D: BlockDevice, T: Trail, const K: u64> Place<B, D, T, K> {
-    /// Makes a new file in this shard.
-    #[tactic(auto, using(held::proofs::Seats::goes_same, held::proofs::Seats::only_same, crate::proofs::Seated::seated_on, shared::proofs::Making::none_made))]
+    /// Makes a new file in this shard, or answers nothing where there is no such shard.
+    #[tactic(auto, using(crate::proofs::Seated::seated_on))]
     pub(crate) fn create<R: Wait>(
         &self,
         rt: &R,
         seat: &mut ShardSeat,
-        shards: u64,
-    ) -> Result<(FileId, Slip), CreateDenied>
-        requires shards { shards ≡ B.shards }
+    ) -> Option<Result<(FileId, Slip), Denied>>
         requires seat { AreSeated B.names seat.old }
-        ensures absent { B.shards ≤ K → (result ≡ Err NoShard) × (seat.new ≡ seat.old) }
-        ensures foreign { K < B.shards → is_of (B.names K).name seat.old K ≡ false → (result ≡ Err (ByShard (record { refusal = Stranger; slip = None }))) × (seat.new ≡ seat.old) }
+        ensures absent { IfNone result ((B.shards ≤ K) × (seat.new ≡ seat.old)) }
+        ensures there { IfSome result (λ _. K < B.shards) }
+        ensures foreign { is_of (B.names K).name seat.old K ≡ false → IfSome result (λ r. (r ≡ Err (record { refusal = Stranger; slip = None })) × (seat.new ≡ seat.old)) }
         ensures others { OnlyAt K seat.old seat.new }
         ensures seated { AreSeated B.names seat.new }
-        ensures goes { Goes (part seat.old K) (part seat.new K) }
-        ensures only { Only (λ e. e.event ≡ event.Create) (part seat.old K) (part seat.new K) }
-        ensures answer { IfOk result (λ r. (file : FileId) × Makes (part seat.old K) (part seat.new K) r.1 event.Create (reply.File file) × (r.0.0 ≡ number_of B.shards K file.0)) }
-        ensures one { IfOk result (λ r. MadeOne (Some r.1) (part seat.old K) (part seat.new K)) }
-        ensures refused_once { K < B.shards → IfErr result (IsByShard (λ d. MadeOne d.slip (part seat.old K) (part seat.new K))) }
-        ensures denied { K < B.shards → is_of (B.names K).name seat.old K ≡ true → IfErr result (IsByShard (IsDenied (B.names K).sizes (B.names K).name (B.names K).whole (λ e. e ≡ event.Create) (part seat.old K) (part seat.new K))) }
-        ensures full { K < B.shards → is_of (B.names K).name seat.old K ≡ true → IfErr result (IsByShard (IsFullIfNoSlip (part seat.old K) (part seat.new K))) }
+        ensures call { is_of (B.names K).name seat.old K ≡ true → IfSome result (λ r. Creates (B.names K) r (part seat.old K) (part seat.new K)) }
     {
         let Some(served) = &self.served else {
-            return Err(CreateDenied::NoShard);
+            return None;
         };
         let Some(own) = seat.seats.get_mut(K as usize) else {
-            return Err(CreateDenied::ByShard(without_slip(Refusal::Stranger)));
+            return Some(Err(without_slip(Refusal::Stranger)));
         };
-        match served.cache.create(rt, own) {
-            Ok((file, slip)) => Ok((number_of(file, K, shards), slip)),
-            Err(denied) => Err(CreateDenied::ByShard(denied)),
-        }
+        Some(served.create(rt, own))
     }
 
-    /// Opens a file of this shard. The handle's cursor is at the beginning; with `append` its writes go to the end of the file.
-    #[tactic(auto, using(held::proofs::Seats::goes_same, held::proofs::Seats::only_same, crate::proofs::Seated::seated_on, shared::proofs::Making::none_made))]
+    /// Opens a file of this shard.
+    #[tactic(auto, using(crate::proofs::Seated::seated_on))]
     pub(crate) fn open<R: Wait>(
         &self,
         rt: &R,
@@ -75,18 +105,8 @@ impl<B: ShardNaming, D: BlockDevice, T: Trail, const K: u64> Place<B, D, T, K> {
         ensures foreign { K < B.shards → is_of (B.names K).name seat.old K ≡ false → (result ≡ Err (record { refusal = Stranger; slip = None })) × (seat.new ≡ seat.old) }
         ensures others { OnlyAt K seat.old seat.new }
         ensures seated { AreSeated B.names seat.new }
-        ensures goes { Goes (part seat.old K) (part seat.new K) }
-        ensures only { Only (λ e. e.event ≡ event.Open file) (part seat.old K) (part seat.new K) }
-        ensures answer { IfOk result (λ r. Makes (part seat.old K) (part seat.new K) r.1 (event.Open file) (reply.Handle r.0.handle.number)) }
-        ensures one { IfOk result (λ r. MadeOne (Some r.1) (part seat.old K) (part seat.new K)) }
-        ensures refused_once { K < B.shards → IfErr result (λ d. MadeOne d.slip (part seat.old K) (part seat.new K)) }
         ensures at { IfOk result (λ r. r.0.shard ≡ K) }
-        ensures handle { IfOk result (λ r. (r.0.handle.cache ≡ (B.names K).name) × (r.0.handle.file ≡ file) × (r.0.handle.pass.board ≡ (B.names K).board)) }
-        ensures begins { IfOk result (λ r. (r.0.handle.cursor ≡ 0) × (r.0.handle.append ≡ append)) }
-        ensures hears { IfOk result (λ r. Hears (B.names K).sizes (B.names K).name r.1 (part seat.new K) r.0.handle.pass) }
-        ensures sampled { IfOk result (λ r. IsSampled r.0.handle.pass) }
-        ensures denied { K < B.shards → is_of (B.names K).name seat.old K ≡ true → IfErr result (IsDenied (B.names K).sizes (B.names K).name (B.names K).whole (λ e. e ≡ event.Open file) (part seat.old K) (part seat.new K)) }
-        ensures full { K < B.shards → is_of (B.names K).name seat.old K ≡ true → IfErr result (IsFullIfNoSlip (part seat.old K) (part seat.new K)) }
+        ensures call { K < B.shards → is_of (B.names K).name seat.old K ≡ true → Opens (B.names K) file append (opened_in result) (part seat.old K) (part seat.new K) }
     {
         let Some(served) = &self.served else {
             return Err(without_slip(Refusal::NoSuchFile));
@@ -94,14 +114,11 @@ impl<B: ShardNaming, D: BlockDevice, T: Trail, const K: u64> Place<B, D, T, K> {
         let Some(own) = seat.seats.get_mut(K as usize) else {
             return Err(without_slip(Refusal::Stranger));
         };
-        match served.cache.open(rt, own, file, append) {
-            Ok((handle, slip)) => Ok((ShardHandle { shard: K, handle }, slip)),
-            Err(denied) => Err(denied),
-        }
+        in_shard(K, served.open(rt, own, file, append))
     }
 
-    /// Closes a handle. It comes back where that is refused, as by `Busy` while a sync by it is in progress.
-    #[tactic(auto, using(held::proofs::Seats::goes_same, held::proofs::Seats::only_same, crate::proofs::Seated::seated_on, shared::proofs::Making::none_made))]
+    /// Closes a handle of this shard.
+    #[tactic(auto, using(crate::proofs::Seated::seated_on))]
     pub(crate) fn close_handle<R: Wait>(
         &self,
         rt: &R,
@@ -112,17 +129,9 @@ impl<B: ShardNaming, D: BlockDevice, T: Trail, const K: u64> Place<B, D, T, K> {
         requires came { handle.handle.cache ≡ (B.names K).name → handle.handle.pass.board ≡ (B.names K).board }
         ensures absent { B.shards ≤ K → (result ≡ Err (record { refusal = BadHandle; slip = None }, handle)) × (seat.new ≡ seat.old) }
         ensures foreign { K < B.shards → is_of (B.names K).name seat.old K ≡ false → (result ≡ Err (record { refusal = Stranger; slip = None }, handle)) × (seat.new ≡ seat.old) }
-        ensures closed { K < B.shards → is_of (B.names K).name seat.old K ≡ true → handle.handle.cache ≢ (B.names K).name → (result ≡ Err (record { refusal = BadHandle; slip = None }, handle)) × (seat.new ≡ seat.old) }
         ensures others { OnlyAt K seat.old seat.new }
         ensures seated { AreSeated B.names seat.new }
-        ensures goes { Goes (part seat.old K) (part seat.new K) }
-        ensures only { Only (λ e. e.event ≡ event.Close handle.handle.number) (part seat.old K) (part seat.new K) }
-        ensures answer { IfOk result (λ slip. Makes (part seat.old K) (part seat.new K) slip (event.Close handle.handle.number) reply.Closed) }
-        ensures one { IfOk result (λ slip. MadeOne (Some slip) (part seat.old K) (part seat.new K)) }
-        ensures refused_once { IfErr result (λ d. MadeOne d.0.slip (part seat.old K) (part seat.new K)) }
-        ensures denied { K < B.shards → is_of (B.names K).name seat.old K ≡ true → handle.handle.cache ≡ (B.names K).name → IfErr result (λ d. IsDenied (B.names K).sizes (B.names K).name (B.names K).whole (λ e. e ≡ event.Close handle.handle.number) (part seat.old K) (part seat.new K) d.0) }
-        ensures full { K < B.shards → is_of (B.names K).name seat.old K ≡ true → handle.handle.cache ≡ (B.names K).name → IfErr result (λ d. IsFullIfNoSlip (part seat.old K) (part seat.new K) d.0) }
-        ensures back { IfErr result (λ d. d.1 ≡ handle) }
+        ensures call { K < B.shards → is_of (B.names K).name seat.old K ≡ true → Closes (B.names K) handle.handle (closed_in result) (part seat.old K) (part seat.new K) }
     {
         let Some(served) = &self.served else {
             return Err((without_slip(Refusal::BadHandle), handle));
@@ -131,10 +140,7 @@ impl<B: ShardNaming, D: BlockDevice, T: Trail, const K: u64> Place<B, D, T, K> {
             return Err((without_slip(Refusal::Stranger), handle));
         };
         let ShardHandle { shard, handle } = handle;
-        match served.cache.close_handle(rt, own, handle) {
-            Ok(slip) => Ok(slip),
-            Err((denied, handle)) => Err((denied, ShardHandle { shard, handle })),
-        }
+        back_in_shard(shard, served.close_handle(rt, own, handle))
     }
 }
 
@@ -151,24 +157,48 @@ impl<B: ShardNaming, D: BlockDevice, T: Trail> ShardedCache<B, D, T> {
         ensures foreign { shard < B.shards → is_of (B.names shard).name seat.old shard ≡ false → (result ≡ Err (ByShard (record { refusal = Stranger; slip = None }))) × (seat.new ≡ seat.old) }
         ensures others { OnlyAt shard seat.old seat.new }
         ensures seated { AreSeated B.names seat.new }
-        ensures goes { Goes (part seat.old shard) (part seat.new shard) }
-        ensures only { Only (λ e. e.event ≡ event.Create) (part seat.old shard) (part seat.new shard) }
-        ensures answer { IfOk result (λ r. (file : FileId) × Makes (part seat.old shard) (part seat.new shard) r.1 event.Create (reply.File file) × (r.0.0 ≡ number_of B.shards shard file.0)) }
-        ensures one { IfOk result (λ r. MadeOne (Some r.1) (part seat.old shard) (part seat.new shard)) }
-        ensures refused_once { shard < B.shards → IfErr result (IsByShard (λ d. MadeOne d.slip (part seat.old shard) (part seat.new shard))) }
-        ensures denied { shard < B.shards → is_of (B.names shard).name seat.old shard ≡ true → IfErr result (IsByShard (IsDenied (B.names shard).sizes (B.names shard).name (B.names shard).whole (λ e. e ≡ event.Create) (part seat.old shard) (part seat.new shard))) }
-        ensures full { shard < B.shards → is_of (B.names shard).name seat.old shard ≡ true → IfErr result (IsByShard (IsFullIfNoSlip (part seat.old shard) (part seat.new shard))) }
+        ensures call { shard < B.shards → is_of (B.names shard).name seat.old shard ≡ true → (r : Result (FileId × Slip) Denied) × Creates (B.names shard) r (part seat.old shard) (part seat.new shard) × (result ≡ numbered B.shards shard r) }
     {
-        let shards = self.shards;
-        at_shard!(
-            self,
-            shard,
-            create(rt, seat, shards),
-            Err(CreateDenied::NoShard)
-        )
+        match self.create_at(rt, seat, shard) {
+            Some(made) => self.number(shard, made),
+            None => Err(CreateDenied::NoShard),
+        }
     }
 
-    /// Opens a file. File F stands in shard F mod n, as its file F / n. The handle's cursor is at the beginning; with `append` its writes go to the end of the file.
+    /// Makes a new file in a shard, or answers nothing where there is no such shard.
+    fn create_at<R: Wait>(
+        &self,
+        rt: &R,
+        seat: &mut ShardSeat,
+        shard: u64,
+    ) -> Option<Result<(FileId, Slip), Denied>>
+        requires seat { AreSeated B.names seat.old }
+        ensures absent { IfNone result ((B.shards ≤ shard) × (seat.new ≡ seat.old)) }
+        ensures there { IfSome result (λ _. shard < B.shards) }
+        ensures foreign { is_of (B.names shard).name seat.old shard ≡ false → IfSome result (λ r. (r ≡ Err (record { refusal = Stranger; slip = None })) × (seat.new ≡ seat.old)) }
+        ensures others { OnlyAt shard seat.old seat.new }
+        ensures seated { AreSeated B.names seat.new }
+        ensures call { is_of (B.names shard).name seat.old shard ≡ true → IfSome result (λ r. Creates (B.names shard) r (part seat.old shard) (part seat.new shard)) }
+    {
+        at_shard!(self, shard, create(rt, seat), None)
+    }
+
+    /// The answer of a shard, with the file's number among those of all shards.
+    fn number(
+        &self,
+        shard: u64,
+        made: Result<(FileId, Slip), Denied>,
+    ) -> Result<(FileId, Slip), CreateDenied>
+        ensures { result ≡ numbered B.shards shard made }
+    {
+        match made {
+            Ok((file, slip)) => Ok((number_of(file, shard, self.shards), slip)),
+            Err(denied) => Err(CreateDenied::ByShard(denied)),
+        }
+    }
+
+    /// Opens a file. File F stands in shard F mod n, as its file F / n. The handle's cursor is at the beginning; with `append` its writes
+    /// go to the end of the file.
     pub fn open<R: Wait>(
         &self,
         rt: &R,
@@ -180,27 +210,32 @@ impl<B: ShardNaming, D: BlockDevice, T: Trail> ShardedCache<B, D, T> {
         ensures foreign { is_of (B.names (file.0 % B.shards)).name seat.old (file.0 % B.shards) ≡ false → (result ≡ Err (record { refusal = Stranger; slip = None })) × (seat.new ≡ seat.old) }
         ensures others { OnlyAt (file.0 % B.shards) seat.old seat.new }
         ensures seated { AreSeated B.names seat.new }
-        ensures goes { Goes (part seat.old (file.0 % B.shards)) (part seat.new (file.0 % B.shards)) }
-        ensures only { Only (λ e. e.event ≡ event.Open (record { 0 = file.0 / B.shards })) (part seat.old (file.0 % B.shards)) (part seat.new (file.0 % B.shards)) }
-        ensures answer { IfOk result (λ r. Makes (part seat.old (file.0 % B.shards)) (part seat.new (file.0 % B.shards)) r.1 (event.Open (record { 0 = file.0 / B.shards })) (reply.Handle r.0.handle.number)) }
-        ensures one { IfOk result (λ r. MadeOne (Some r.1) (part seat.old (file.0 % B.shards)) (part seat.new (file.0 % B.shards))) }
-        ensures refused_once { IfErr result (λ d. MadeOne d.slip (part seat.old (file.0 % B.shards)) (part seat.new (file.0 % B.shards))) }
-        ensures at { IfOk result (λ r. r.0.shard ≡ (file.0 % B.shards)) }
-        ensures handle { IfOk result (λ r. (r.0.handle.cache ≡ (B.names (file.0 % B.shards)).name) × (r.0.handle.file.0 ≡ file.0 / B.shards) × (r.0.handle.pass.board ≡ (B.names (file.0 % B.shards)).board)) }
-        ensures begins { IfOk result (λ r. (r.0.handle.cursor ≡ 0) × (r.0.handle.append ≡ append)) }
-        ensures hears { IfOk result (λ r. Hears (B.names (file.0 % B.shards)).sizes (B.names (file.0 % B.shards)).name r.1 (part seat.new (file.0 % B.shards)) r.0.handle.pass) }
-        ensures sampled { IfOk result (λ r. IsSampled r.0.handle.pass) }
-        ensures denied { is_of (B.names (file.0 % B.shards)).name seat.old (file.0 % B.shards) ≡ true → IfErr result (IsDenied (B.names (file.0 % B.shards)).sizes (B.names (file.0 % B.shards)).name (B.names (file.0 % B.shards)).whole (λ e. e ≡ event.Open (record { 0 = file.0 / B.shards })) (part seat.old (file.0 % B.shards)) (part seat.new (file.0 % B.shards))) }
-        ensures full { is_of (B.names (file.0 % B.shards)).name seat.old (file.0 % B.shards) ≡ true → IfErr result (IsFullIfNoSlip (part seat.old (file.0 % B.shards)) (part seat.new (file.0 % B.shards))) }
+        ensures at { IfOk result (λ r. r.0.shard ≡ file.0 % B.shards) }
+        ensures call { is_of (B.names (file.0 % B.shards)).name seat.old (file.0 % B.shards) ≡ true → Opens (B.names (file.0 % B.shards)) (record { 0 = file.0 / B.shards }) append (opened_in result) (part seat.old (file.0 % B.shards)) (part seat.new (file.0 % B.shards)) }
     {
         let shard = file.0 % self.shards;
         let own = FileId(file.0 / self.shards);
-        at_shard!(
-            self,
-            shard,
-            open(rt, seat, own, append),
-            Err(without_slip(Refusal::NoSuchFile))
-        )
+        self.open_at(rt, seat, shard, own, append)
+    }
+
+    /// Opens a shard's own file.
+    fn open_at<R: Wait>(
+        &self,
+        rt: &R,
+        seat: &mut ShardSeat,
+        shard: u64,
+        file: FileId,
+        append: bool,
+    ) -> Result<(ShardHandle, Slip), Denied>
+        requires seat { AreSeated B.names seat.old }
+        ensures absent { B.shards ≤ shard → (result ≡ Err (record { refusal = NoSuchFile; slip = None })) × (seat.new ≡ seat.old) }
+        ensures foreign { shard < B.shards → is_of (B.names shard).name seat.old shard ≡ false → (result ≡ Err (record { refusal = Stranger; slip = None })) × (seat.new ≡ seat.old) }
+        ensures others { OnlyAt shard seat.old seat.new }
+        ensures seated { AreSeated B.names seat.new }
+        ensures at { IfOk result (λ r. r.0.shard ≡ shard) }
+        ensures call { shard < B.shards → is_of (B.names shard).name seat.old shard ≡ true → Opens (B.names shard) file append (opened_in result) (part seat.old shard) (part seat.new shard) }
+    {
+        at_shard!(self, shard, open(rt, seat, file, append), Err(without_slip(Refusal::NoSuchFile)))
     }
 
     /// Closes a handle. It comes back where that is refused, as by `Busy` while a sync by it is in progress.
@@ -214,25 +249,40 @@ impl<B: ShardNaming, D: BlockDevice, T: Trail> ShardedCache<B, D, T> {
         requires came { handle.handle.cache ≡ (B.names handle.shard).name → handle.handle.pass.board ≡ (B.names handle.shard).board }
         ensures absent { B.shards ≤ handle.shard → (result ≡ Err (record { refusal = BadHandle; slip = None }, handle)) × (seat.new ≡ seat.old) }
         ensures foreign { handle.shard < B.shards → is_of (B.names handle.shard).name seat.old handle.shard ≡ false → (result ≡ Err (record { refusal = Stranger; slip = None }, handle)) × (seat.new ≡ seat.old) }
-        ensures closed { handle.shard < B.shards → is_of (B.names handle.shard).name seat.old handle.shard ≡ true → handle.handle.cache ≢ (B.names handle.shard).name → (result ≡ Err (record { refusal = BadHandle; slip = None }, handle)) × (seat.new ≡ seat.old) }
         ensures others { OnlyAt handle.shard seat.old seat.new }
         ensures seated { AreSeated B.names seat.new }
-        ensures goes { Goes (part seat.old handle.shard) (part seat.new handle.shard) }
-        ensures only { Only (λ e. e.event ≡ event.Close handle.handle.number) (part seat.old handle.shard) (part seat.new handle.shard) }
-        ensures answer { IfOk result (λ slip. Makes (part seat.old handle.shard) (part seat.new handle.shard) slip (event.Close handle.handle.number) reply.Closed) }
-        ensures one { IfOk result (λ slip. MadeOne (Some slip) (part seat.old handle.shard) (part seat.new handle.shard)) }
-        ensures refused_once { IfErr result (λ d. MadeOne d.0.slip (part seat.old handle.shard) (part seat.new handle.shard)) }
-        ensures denied { handle.shard < B.shards → is_of (B.names handle.shard).name seat.old handle.shard ≡ true → handle.handle.cache ≡ (B.names handle.shard).name → IfErr result (λ d. IsDenied (B.names handle.shard).sizes (B.names handle.shard).name (B.names handle.shard).whole (λ e. e ≡ event.Close handle.handle.number) (part seat.old handle.shard) (part seat.new handle.shard) d.0) }
-        ensures full { handle.shard < B.shards → is_of (B.names handle.shard).name seat.old handle.shard ≡ true → handle.handle.cache ≡ (B.names handle.shard).name → IfErr result (λ d. IsFullIfNoSlip (part seat.old handle.shard) (part seat.new handle.shard) d.0) }
-        ensures back { IfErr result (λ d. d.1 ≡ handle) }
+        ensures call { handle.shard < B.shards → is_of (B.names handle.shard).name seat.old handle.shard ≡ true → Closes (B.names handle.shard) handle.handle (closed_in result) (part seat.old handle.shard) (part seat.new handle.shard) }
     {
         let shard = handle.shard;
-        at_shard!(
-            self,
-            shard,
-            close_handle(rt, seat, handle),
-            Err((without_slip(Refusal::BadHandle), handle))
-        )
+        at_shard!(self, shard, close_handle(rt, seat, handle), Err((without_slip(Refusal::BadHandle), handle)))
+    }
+}
+
+/// The answer of a shard to `open`, with its number.
+fn in_shard(
+    shard: u64,
+    opened: Result<(Handle, Slip), Denied>,
+) -> Result<(ShardHandle, Slip), Denied>
+    ensures is { opened_in result ≡ opened }
+    ensures at { IfOk result (λ r. r.0.shard ≡ shard) }
+{
+    match opened {
+        Ok((handle, slip)) => Ok((ShardHandle { shard, handle }, slip)),
+        Err(denied) => Err(denied),
+    }
+}
+
+/// The answer of a shard to `close_handle`, with the shard's number where the handle comes back.
+fn back_in_shard(
+    shard: u64,
+    closed: Result<Slip, (Denied, Handle)>,
+) -> Result<Slip, (Denied, ShardHandle)>
+    ensures is { closed_in result ≡ closed }
+    ensures at { IfErr result (λ e. e.1.shard ≡ shard) }
+{
+    match closed {
+        Ok(slip) => Ok(slip),
+        Err((denied, handle)) => Err((denied, ShardHandle { shard, handle })),
     }
 }
 

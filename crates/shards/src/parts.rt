@@ -121,7 +121,7 @@ impl<D: BlockDevice, T: Trail> Model for ShardParts<D, T> {
 
     ghost view = { λ p. p.parts.items };
 
-    ghost invariant = { λ p. (0 < vec_len p.parts) × (vec_len p.parts ≤ 4) };
+    ghost invariant = { λ p. (0 < vec_len p.parts) × (vec_len p.parts ≤ 3) };
 }
 
 /// What was to be among the parts of a cache of shards that were not made: the names, trails and devices that are left, and the parts

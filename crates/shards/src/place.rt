@@ -71,7 +71,6 @@ macro_rules! at_shard {
             0 => $self.place_0.$call($($arg),*),
             1 => $self.place_1.$call($($arg),*),
             2 => $self.place_2.$call($($arg),*),
-            3 => $self.place_3.$call($($arg),*),
             _ => $none,
         }
     };

@@ -162,7 +162,6 @@ impl<B: ShardNaming, D: BlockDevice, T: Trail> ShardedCache<B, D, T> {
         self.place_0.stop(rt);
         self.place_1.stop(rt);
         self.place_2.stop(rt);
-        self.place_3.stop(rt);
     }
 }
 
