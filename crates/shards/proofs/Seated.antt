@@ -48,7 +48,7 @@ pub at_part : (P : SeatSeen → SeatSeen → Type 0) (seats : List SeatSeen) (k 
     → own ≡ slice_index_or seats k own → P own new → P (part seats k) (part (slice_set seats k new) k)
 at_part P seats k own new less is p =
     subst (λ a. P a (part (slice_set seats k new) k)) (sym (part_was seats k own less is))
-        (subst (P own) (sym (get_or-set_same seats k new no_seat less)) p)
+    (subst (P own) (sym (get_or-set_same seats k new no_seat less)) p)
 
 -- ---- a call by the seat at a shard, which was lent
 
@@ -66,7 +66,7 @@ called P name now inside k own new same less is call of =
     let was : part now k ≡ own = ap (λ seats. part seats k) (sym same) ∙ part_was inside k own less is in
     let named : own.name ≡ name = ap (λ (s : SeatSeen). s.name) (sym was) ∙ of_named name now k of in
     subst (λ a. P a (part (slice_set inside k new) k)) (sym was)
-        (subst (P own) (sym (get_or-set_same inside k new no_seat less)) (call named))
+    (subst (P own) (sym (get_or-set_same inside k new no_seat less)) (call named))
 
 -- of another cache
 pub not_named : (name : ℕ) (now inside : List SeatSeen) (k : ℕ) (own : SeatSeen) → inside ≡ now → k < length inside
@@ -88,6 +88,6 @@ seated_after names now inside k own new same less is seated goes =
     let was : part now k ≡ own = ap (λ seats. part seats k) (sym same) ∙ part_was inside k own less is in
     let left : part (slice_set inside k new) k ≡ new = get_or-set_same inside k new no_seat less in
     let only : OnlyAt k now (slice_set inside k new) =
-        ap (λ seats. slice_set seats k new) same ∙ ap (λ s. slice_set now k s) (sym left) in
+    ap (λ seats. slice_set seats k new) same ∙ ap (λ s. slice_set now k s) (sym left) in
     seated_on names k now (slice_set inside k new) seated only
-        (subst (λ a. Goes a (part (slice_set inside k new) k)) (sym was) (subst (Goes own) (sym left) goes))
+    (subst (λ a. Goes a (part (slice_set inside k new) k)) (sym was) (subst (Goes own) (sym left) goes))

@@ -124,7 +124,12 @@ impl<B: ShardNaming, D: BlockDevice, T: Trail> ShardedCache<B, D, T> {
         ensures seated { AreSeated B.names seat.new }
         ensures call { handle.now.shard < B.shards → is_of (B.names handle.now.shard).name seat.old handle.now.shard ≡ true → Reads (B.names handle.now.shard) handle.now.handle offset out.old out.new result (part seat.old handle.now.shard) (part seat.new handle.now.shard) }
     {
-        at_shard!(self, handle.shard, pread(rt, seat, handle, offset, out), Err(without_slip(Refusal::BadHandle)))
+        at_shard!(
+            self,
+            handle.shard,
+            pread(rt, seat, handle, offset, out),
+            Err(without_slip(Refusal::BadHandle))
+        )
     }
 
     /// Writes the bytes into the file from `offset` on, all of them, also by an appending handle. A gap before them reads as zeros. A
@@ -144,6 +149,11 @@ impl<B: ShardNaming, D: BlockDevice, T: Trail> ShardedCache<B, D, T> {
         ensures seated { AreSeated B.names seat.new }
         ensures call { handle.now.shard < B.shards → is_of (B.names handle.now.shard).name seat.old handle.now.shard ≡ true → Writes (B.names handle.now.shard) handle.now.handle offset bytes.now result (part seat.old handle.now.shard) (part seat.new handle.now.shard) }
     {
-        at_shard!(self, handle.shard, pwrite(rt, seat, handle, offset, bytes), Err(without_slip(Refusal::BadHandle)))
+        at_shard!(
+            self,
+            handle.shard,
+            pwrite(rt, seat, handle, offset, bytes),
+            Err(without_slip(Refusal::BadHandle))
+        )
     }
 }

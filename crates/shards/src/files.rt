@@ -235,7 +235,12 @@ impl<B: ShardNaming, D: BlockDevice, T: Trail> ShardedCache<B, D, T> {
         ensures at { IfOk result (λ r. r.0.shard ≡ shard) }
         ensures call { shard < B.shards → is_of (B.names shard).name seat.old shard ≡ true → Opens (B.names shard) file append (opened_in result) (part seat.old shard) (part seat.new shard) }
     {
-        at_shard!(self, shard, open(rt, seat, file, append), Err(without_slip(Refusal::NoSuchFile)))
+        at_shard!(
+            self,
+            shard,
+            open(rt, seat, file, append),
+            Err(without_slip(Refusal::NoSuchFile))
+        )
     }
 
     /// Closes a handle. It comes back where that is refused, as by `Busy` while a sync by it is in progress.
@@ -254,7 +259,12 @@ impl<B: ShardNaming, D: BlockDevice, T: Trail> ShardedCache<B, D, T> {
         ensures call { handle.shard < B.shards → is_of (B.names handle.shard).name seat.old handle.shard ≡ true → Closes (B.names handle.shard) handle.handle (closed_in result) (part seat.old handle.shard) (part seat.new handle.shard) }
     {
         let shard = handle.shard;
-        at_shard!(self, shard, close_handle(rt, seat, handle), Err((without_slip(Refusal::BadHandle), handle)))
+        at_shard!(
+            self,
+            shard,
+            close_handle(rt, seat, handle),
+            Err((without_slip(Refusal::BadHandle), handle))
+        )
     }
 }
 
@@ -264,6 +274,7 @@ fn in_shard(
     opened: Result<(Handle, Slip), Denied>,
 ) -> Result<(ShardHandle, Slip), Denied>
     ensures is { opened_in result ≡ opened }
+    ensures err { IfErr opened (λ d. result ≡ Err d) }
     ensures at { IfOk result (λ r. r.0.shard ≡ shard) }
 {
     match opened {
@@ -278,7 +289,7 @@ fn back_in_shard(
     closed: Result<Slip, (Denied, Handle)>,
 ) -> Result<Slip, (Denied, ShardHandle)>
     ensures is { closed_in result ≡ closed }
-    ensures at { IfErr result (λ e. e.1.shard ≡ shard) }
+    ensures err { IfErr closed (λ e. result ≡ Err (e.0, record { shard = shard; handle = e.1 })) }
 {
     match closed {
         Ok(slip) => Ok(slip),

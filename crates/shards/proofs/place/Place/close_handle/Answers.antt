@@ -1,18 +1,18 @@
-use Rattle.std.proofs.Common.{rules, ◌∙◌, ap, subst, sym}
+use Rattle.std.proofs.Common.{rules, ◌≡◌, Err, IfErr, subst, sym}
 use Rattle.shards.specs.Calls.{Closes}
 use Rattle.shards.proofs.Seated.{called, not_named, seated_after, stayed}
 use Rattle.shards.specs.Results.{closed_in}
 use Rattle.shards.proofs.place.Place.close_handle.Goals as goal
 
 pub returns-clause-foreign : goal.returns-clause-foreign
-returns-clause-foreign g c = λ there not. 
+returns-clause-foreign g c = λ there not.
     let other = not_named (g.B.ShardNaming.names g.row.K).name c.args.seat.now c.seat.inside.seats.items g.row.K c.in-Some-get_mut.own.now c.seat.view_is (search rules) c.in-Some-get_mut.ensures.value not in
-    let f = c.close_handle.ensures.foreign other in (f.0, stayed c.args.seat.now c.seat.inside.seats.items g.row.K c.in-Some-get_mut.own.now c.close_handle.new.own c.seat.view_is c.in-Some-get_mut.ensures.value f.1)
+    let f = c.close_handle.ensures.foreign other in (subst (λ r. IfErr r (λ e. c.back_in_shard.result ≡ Err (e.0, record { shard = c.args.handle.shard; handle = e.1 }))) f.0 c.back_in_shard.ensures.err, stayed c.args.seat.now c.seat.inside.seats.items g.row.K c.in-Some-get_mut.own.now c.close_handle.new.own c.seat.view_is c.in-Some-get_mut.ensures.value f.1)
 
 pub returns-clause-seated : goal.returns-clause-seated
 returns-clause-seated g c =
     seated_after g.B.ShardNaming.names c.args.seat.now c.seat.inside.seats.items g.row.K c.in-Some-get_mut.own.now c.close_handle.new.own c.seat.view_is (search rules) c.in-Some-get_mut.ensures.value c.requires.seat
-        c.close_handle.ensures.goes
+    c.close_handle.ensures.goes
 
 pub returns-clause-call : goal.returns-clause-call
 returns-clause-call g c = λ there. called
