@@ -1,6 +1,7 @@
 //! Files and handles.
 
 ghost use Rattle.std.specs.Prelude.{◌≡◌, ◌≢◌, ◌/◌, ◌%◌, ◌<◌, ◌≤◌, Err, IfErr, IfNone, IfOk, IfSome, None, Result, Some, false, true};
+ghost use Rattle.atomic_table.specs.Seated.{TableId};
 ghost use Rattle.held.specs.Called.{Goes};
 ghost use Rattle.held.specs.declared.denied.Denied.{Denied};
 ghost use Rattle.held.specs.declared.log.Slip.{Slip};
@@ -45,6 +46,7 @@ impl<B: ShardNaming, D: BlockDevice, T: Trail, const K: u64> Served<B, D, T, K> 
         requires seat { own.old.name ≡ (B.names K).name → own.old.table ≡ (B.names K).table }
         ensures goes { Goes own.old own.new }
         ensures foreign { own.old.name ≢ (B.names K).name → (result ≡ Err (record { refusal = Stranger; slip = None })) × (own.new ≡ own.old) }
+        ensures board { IfOk result (λ r. r.0.pass.board ≡ (B.names K).board) }
         ensures call { own.old.name ≡ (B.names K).name → Opens (B.names K) file append result own.old own.new }
     {
         self.cache.open(rt, own, file, append)
@@ -106,6 +108,7 @@ impl<B: ShardNaming, D: BlockDevice, T: Trail, const K: u64> Place<B, D, T, K> {
         ensures others { OnlyAt K seat.old seat.new }
         ensures seated { AreSeated B.names seat.new }
         ensures at { IfOk result (λ r. r.0.shard ≡ K) }
+        ensures board { IfOk result (λ r. r.0.handle.pass.board ≡ (B.names K).board) }
         ensures call { K < B.shards → is_of (B.names K).name seat.old K ≡ true → Opens (B.names K) file append (opened_in result) (part seat.old K) (part seat.new K) }
     {
         let Some(served) = &self.served else {
@@ -211,6 +214,7 @@ impl<B: ShardNaming, D: BlockDevice, T: Trail> ShardedCache<B, D, T> {
         ensures others { OnlyAt (file.0 % B.shards) seat.old seat.new }
         ensures seated { AreSeated B.names seat.new }
         ensures at { IfOk result (λ r. r.0.shard ≡ file.0 % B.shards) }
+        ensures board { IfOk result (λ r. r.0.handle.pass.board ≡ (B.names r.0.shard).board) }
         ensures call { is_of (B.names (file.0 % B.shards)).name seat.old (file.0 % B.shards) ≡ true → Opens (B.names (file.0 % B.shards)) (record { 0 = file.0 / B.shards }) append (opened_in result) (part seat.old (file.0 % B.shards)) (part seat.new (file.0 % B.shards)) }
     {
         let shard = file.0 % self.shards;
@@ -233,6 +237,7 @@ impl<B: ShardNaming, D: BlockDevice, T: Trail> ShardedCache<B, D, T> {
         ensures others { OnlyAt shard seat.old seat.new }
         ensures seated { AreSeated B.names seat.new }
         ensures at { IfOk result (λ r. r.0.shard ≡ shard) }
+        ensures board { IfOk result (λ r. r.0.handle.pass.board ≡ (B.names r.0.shard).board) }
         ensures call { shard < B.shards → is_of (B.names shard).name seat.old shard ≡ true → Opens (B.names shard) file append (opened_in result) (part seat.old shard) (part seat.new shard) }
     {
         at_shard!(
@@ -276,6 +281,7 @@ fn in_shard(
     ensures is { opened_in result ≡ opened }
     ensures err { IfErr opened (λ d. result ≡ Err d) }
     ensures at { IfOk result (λ r. r.0.shard ≡ shard) }
+    ensures board { (b : TableId) → IfOk opened (λ o. o.0.pass.board ≡ b) → IfOk result (λ r. r.0.handle.pass.board ≡ b) }
 {
     match opened {
         Ok((handle, slip)) => Ok((ShardHandle { shard, handle }, slip)),

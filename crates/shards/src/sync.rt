@@ -65,6 +65,7 @@ impl<B: ShardNaming, D: BlockDevice, T: Trail, const K: u64> Served<B, D, T, K> 
         ensures goes { Goes own.old own.new }
         ensures foreign { own.old.name ≢ (B.names K).name → (result ≡ Err (record { refusal = Stranger; slip = None })) × (own.new ≡ own.old) × (handle.new ≡ handle.old) }
         requires came { handle.old.cache ≡ (B.names K).name → handle.old.pass.board ≡ (B.names K).board }
+        ensures same { (handle.new ≡ record handle.old { pass = handle.new.pass }) × (handle.new.pass.board ≡ handle.old.pass.board) }
         ensures call { own.old.name ≡ (B.names K).name → Fsyncs (B.names K) handle.old handle.new result own.old own.new }
     {
         match self.cache.fsync(rt, own, handle) {
@@ -88,7 +89,7 @@ impl<B: ShardNaming, D: BlockDevice, T: Trail, const K: u64> Place<B, D, T, K> {
         ensures foreign { K < B.shards → is_of (B.names K).name seat.old K ≡ false → (result ≡ Err (record { refusal = Stranger; slip = None })) × (seat.new ≡ seat.old) × (handle.new ≡ handle.old) }
         ensures others { OnlyAt K seat.old seat.new }
         ensures seated { AreSeated B.names seat.new }
-        ensures kept { handle.new.shard ≡ handle.old.shard }
+        ensures same { (handle.new.shard ≡ handle.old.shard) × (handle.new.handle ≡ record handle.old.handle { pass = handle.new.handle.pass }) × (handle.new.handle.pass.board ≡ handle.old.handle.pass.board) }
         ensures call { K < B.shards → is_of (B.names K).name seat.old K ≡ true → Fsyncs (B.names K) handle.old.handle handle.new.handle result (part seat.old K) (part seat.new K) }
     {
         let Some(served) = &self.served else {
@@ -117,7 +118,7 @@ impl<B: ShardNaming, D: BlockDevice, T: Trail> ShardedCache<B, D, T> {
         ensures foreign { handle.old.shard < B.shards → is_of (B.names handle.old.shard).name seat.old handle.old.shard ≡ false → (result ≡ Err (record { refusal = Stranger; slip = None })) × (seat.new ≡ seat.old) × (handle.new ≡ handle.old) }
         ensures others { OnlyAt handle.old.shard seat.old seat.new }
         ensures seated { AreSeated B.names seat.new }
-        ensures kept { handle.new.shard ≡ handle.old.shard }
+        ensures same { (handle.new.shard ≡ handle.old.shard) × (handle.new.handle ≡ record handle.old.handle { pass = handle.new.handle.pass }) × (handle.new.handle.pass.board ≡ handle.old.handle.pass.board) }
         ensures call { handle.old.shard < B.shards → is_of (B.names handle.old.shard).name seat.old handle.old.shard ≡ true → Fsyncs (B.names handle.old.shard) handle.old.handle handle.new.handle result (part seat.old handle.old.shard) (part seat.new handle.old.shard) }
     {
         at_shard!(self, handle.shard, fsync(rt, seat, handle), Err(without_slip(Refusal::BadHandle)))

@@ -18,3 +18,6 @@ pub returns-clause-call : goal.returns-clause-call
 returns-clause-call g c = λ there. called
     (λ a b. Opens (g.B.ShardNaming.names g.row.K) c.args.file c.args.append (opened_in c.in_shard.result) a b)
     (g.B.ShardNaming.names g.row.K).name c.args.seat.now c.seat.inside.seats.items g.row.K c.in-Some-get_mut.own.now c.open.new.own c.seat.view_is (search rules) c.in-Some-get_mut.ensures.value (λ named. subst (λ r. Opens (g.B.ShardNaming.names g.row.K) c.args.file c.args.append r c.in-Some-get_mut.own.now c.open.new.own) (sym c.in_shard.ensures.is) (c.open.ensures.call named))
+
+pub returns-clause-board : goal.returns-clause-board
+returns-clause-board g c = c.in_shard.ensures.board (g.B.ShardNaming.names g.row.K).board c.open.ensures.board
