@@ -62,9 +62,9 @@ impl<B: ShardNaming, D: BlockDevice, T: Trail, const K: u64> Served<B, D, T, K> 
         handle: &mut Handle,
     ) -> Result<ShardDurable<B, D>, Denied>
         requires seat { own.old.name ≡ (B.names K).name → own.old.table ≡ (B.names K).table }
+        requires came { handle.old.cache ≡ (B.names K).name → handle.old.pass.board ≡ (B.names K).board }
         ensures goes { Goes own.old own.new }
         ensures foreign { own.old.name ≢ (B.names K).name → (result ≡ Err (record { refusal = Stranger; slip = None })) × (own.new ≡ own.old) × (handle.new ≡ handle.old) }
-        requires came { handle.old.cache ≡ (B.names K).name → handle.old.pass.board ≡ (B.names K).board }
         ensures same { (handle.new ≡ record handle.old { pass = handle.new.pass }) × (handle.new.pass.board ≡ handle.old.pass.board) }
         ensures call { own.old.name ≡ (B.names K).name → Fsyncs (B.names K) handle.old handle.new result own.old own.new }
     {
@@ -121,6 +121,11 @@ impl<B: ShardNaming, D: BlockDevice, T: Trail> ShardedCache<B, D, T> {
         ensures same { (handle.new.shard ≡ handle.old.shard) × (handle.new.handle ≡ record handle.old.handle { pass = handle.new.handle.pass }) × (handle.new.handle.pass.board ≡ handle.old.handle.pass.board) }
         ensures call { handle.old.shard < B.shards → is_of (B.names handle.old.shard).name seat.old handle.old.shard ≡ true → Fsyncs (B.names handle.old.shard) handle.old.handle handle.new.handle result (part seat.old handle.old.shard) (part seat.new handle.old.shard) }
     {
-        at_shard!(self, handle.shard, fsync(rt, seat, handle), Err(without_slip(Refusal::BadHandle)))
+        at_shard!(
+            self,
+            handle.shard,
+            fsync(rt, seat, handle),
+            Err(without_slip(Refusal::BadHandle))
+        )
     }
 }
