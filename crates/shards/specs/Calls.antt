@@ -1,5 +1,5 @@
 -- What a call makes in a shard, of the caller's seat there, where that is of the shard's cache: what the call of `SharedCache` says.
-use Rattle.std.specs.Prelude.{◌≡◌, ◌≢◌, ◌⊎◌, ◌+◌, ◌*◌, ◌≤◌, ℕ, Bool, List, Result, Ok, Err, None, Some, IfErr, IfOk, drop, length, min, take}
+use Rattle.std.specs.Prelude.{◌≡◌, ◌≢◌, ◌⊎◌, ◌+◌, ◌-◌, ◌*◌, ◌^◌, ◌≤◌, ℕ, Bool, List, Result, Ok, Err, None, Some, IfErr, IfOk, drop, length, min, take}
 use Rattle.errboard.specs.Shown.{PassSeen}
 use Rattle.held.specs.Called.{Goes, Once, Only}
 use Rattle.held.specs.Shown.{SeatSeen}
@@ -23,7 +23,7 @@ use Rattle.shards.specs.Names.{CacheNames}
 
 -- the number of a shard's file among those of so many shards
 abbrev pub number_of : ℕ → ℕ → ℕ → ℕ
-number_of shards shard file = min (file * shards + shard) u64.MAX
+number_of shards shard file = min (file * shards + shard) (2 ^ 64 - 1)
 
 -- `create`
 pub record Creates (n : CacheNames) (result : Result (FileId × Slip) Denied) (before after : SeatSeen) : Type 0 where
