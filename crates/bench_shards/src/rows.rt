@@ -132,7 +132,9 @@ fn time_over<B: ShardNaming + Send + Sync, W: Wait + Threads + Clock + Sync>(
     requires named { (k : ℕ) → B.names k ≡ names_at parts k }
     requires seats { All (AreSeated B.names) seats.items }
 {
-    let cache = Sharded::<B>::of(alloc, parts);
+    let Ok(cache) = Sharded::<B>::of(alloc, parts) else {
+        return Err(Fault::Memory);
+    };
     let made = make_readers(rt, &cache, &mut seats, shards);
     let times = match made {
         Ok(mut readers) => time_rounds(rt, &cache, &mut readers),

@@ -8,7 +8,7 @@ use crate::parts::ShardParts;
 use crate::place::Place;
 use blockdev::BlockDevice;
 use held::naming::Naming;
-use std::alloc::Global;
+use std::alloc::{AllocError, Global};
 use trail::Trail;
 
 /// How many shards a cache may have.
@@ -32,23 +32,23 @@ where
 }
 
 impl<B: ShardNaming, D: BlockDevice, T: Trail + Drop> ShardedCache<B, D, T> {
-    /// The cache of these parts. They were made before, so that a caller could pick B.
-    pub fn of(alloc: Global, parts: ShardParts<D, T>) -> ShardedCache<B, D, T>
+    /// The cache of these parts, or want of memory. They were made before, so that a caller could pick B.
+    pub fn of(alloc: Global, parts: ShardParts<D, T>) -> Result<ShardedCache<B, D, T>, AllocError>
         requires shards { B.shards ≡ length parts }
         requires named { (k : ℕ) → B.names k ≡ names_at parts k }
     {
         let ShardParts { mut parts } = parts;
         let shards = parts.len() as u64;
         // the last first
-        let place_2 = Place::of(alloc, &mut parts);
-        let place_1 = Place::of(alloc, &mut parts);
-        let place_0 = Place::of(alloc, &mut parts);
-        ShardedCache {
+        let place_2 = Place::of(alloc, &mut parts)?;
+        let place_1 = Place::of(alloc, &mut parts)?;
+        let place_0 = Place::of(alloc, &mut parts)?;
+        Ok(ShardedCache {
             shards,
             place_0,
             place_1,
             place_2,
-        }
+        })
     }
 }
 

@@ -10,7 +10,7 @@ use blockdev::BlockDevice;
 use held::naming::Naming;
 use shared::cache::SharedCache;
 use shared::worker::Worker;
-use std::alloc::Global;
+use std::alloc::{AllocError, Global};
 use trail::Trail;
 
 /// The cache of shard K, with its own worker.
@@ -19,10 +19,10 @@ pub(crate) struct Served<B: ShardNaming, D: BlockDevice, T: Trail, const K: u64>
 where
     Shard<B, K>: Naming,
 {
-    pub(crate) cache: SharedCache<Shard<B, K>, D, T>,
+    pub(crate) cache: Box<SharedCache<Shard<B, K>, D, T>>,
     pub(crate) own: Worker,
-    ghost ringed: { (B.names K).ring ≡ Some cache.ring },
-    ghost works: { IsWorkerOf cache.ring (B.names K).name (B.names K).table (B.names K).deeds (B.names K).sizes own },
+    ghost ringed: { (B.names K).ring ≡ Some cache.value.ring },
+    ghost works: { IsWorkerOf cache.value.ring (B.names K).name (B.names K).table (B.names K).deeds (B.names K).sizes own },
 }
 
 /// The place of shard K: its cache, where there are so many shards.
@@ -35,32 +35,42 @@ where
     ghost there: { is_some served ≡ nat_lt K B.shards },
 }
 
-impl<B: ShardNaming, D: BlockDevice, T: Trail, const K: u64> Place<B, D, T, K> {
+impl<B: ShardNaming, D: BlockDevice, T: Trail + Drop, const K: u64> Place<B, D, T, K> {
     /// The place of shard K, whose parts are the last where there are so many shards.
-    pub(crate) fn of(alloc: Global, parts: &mut Vec<OneParts<D, T>>) -> Place<B, D, T, K>
+    pub(crate) fn of(
+        alloc: Global,
+        parts: &mut Vec<OneParts<D, T>>,
+    ) -> Result<Place<B, D, T, K>, AllocError>
         requires left { vec_len parts.old ≡ min B.shards (K + 1) }
         requires named { (k : ℕ) → k < vec_len parts.old → B.names k ≡ names_at parts.old.items k }
         ensures left { vec_len parts.new ≡ min B.shards K }
         ensures named { (k : ℕ) → k < vec_len parts.new → B.names k ≡ names_at parts.new.items k }
     {
         if parts.len() as u64 <= K {
-            return Place { served: None };
+            return Ok(Place { served: None });
         }
-        match parts.pop() {
-            Some(one) => Place {
-                served: Some(Served::of(alloc, one)),
-            },
-            None => Place { served: None },
+        let Some(one) = parts.pop() else {
+            return Ok(Place { served: None });
+        };
+        match Served::of(alloc, one) {
+            Ok(served) => Ok(Place {
+                served: Some(served),
+            }),
+            Err(error) => Err(error),
         }
     }
 }
 
-impl<B: ShardNaming, D: BlockDevice, T: Trail, const K: u64> Served<B, D, T, K> {
-    fn of(alloc: Global, one: OneParts<D, T>) -> Served<B, D, T, K>
+impl<B: ShardNaming, D: BlockDevice, T: Trail + Drop, const K: u64> Served<B, D, T, K> {
+    /// The cache in a box: a call by a reference into a larger value would owe that the value's size is small, whatever D and T are.
+    fn of(alloc: Global, one: OneParts<D, T>) -> Result<Served<B, D, T, K>, AllocError>
         requires { B.names K ≡ one }
     {
         let (cache, own) = SharedCache::<Shard<B, K>, D, T>::of(alloc, one.into_parts());
-        Served { cache, own }
+        match Box::new(alloc, cache) {
+            Ok(cache) => Ok(Served { cache, own }),
+            Err(_) => Err(AllocError),
+        }
     }
 }
 

@@ -56,7 +56,9 @@ fn runs<'a, B: ShardNaming + Send + Sync, R: Threads + Wait + Sync>(
     requires named { (k : ℕ) → B.names k ≡ names_at parts k }
     requires seats { All (AreSeated B.names) seats.items }
 {
-    let cache = ShardedCache::<B, MemDevice, GatedTrail<'a>>::of(alloc, parts);
+    let Ok(cache) = ShardedCache::<B, MemDevice, GatedTrail<'a>>::of(alloc, parts) else {
+        return false;
+    };
     let (Some(first), Some(second)) = (caller::<B>(&mut seats), caller::<B>(&mut seats)) else {
         drop(cache);
         return false;
