@@ -1,4 +1,4 @@
-use Rattle.std.proofs.Common.{rules, ◌∙◌, ap, subst, sym}
+use Rattle.std.proofs.Common.{rules, ap}
 use Rattle.shards.specs.Calls.{Fsyncs}
 use Rattle.shards.proofs.Seated.{called, not_named, seated_after, stayed}
 use Rattle.shards.proofs.place.Place.fsync.Goals as goal
@@ -6,7 +6,7 @@ use Rattle.shards.proofs.place.Place.fsync.Goals as goal
 pub returns-clause-foreign : goal.returns-clause-foreign
 returns-clause-foreign g c = λ there not.
     let other = not_named (g.B.ShardNaming.names g.row.K).name c.args.seat.now c.seat.inside.seats.items g.row.K c.in-Some-get_mut.own.now c.seat.view_is (search rules) c.in-Some-get_mut.ensures.value not in
-    let f = c.fsync.ensures.foreign other in (f.0, stayed c.args.seat.now c.seat.inside.seats.items g.row.K c.in-Some-get_mut.own.now c.fsync.new.own c.seat.view_is c.in-Some-get_mut.ensures.value f.1, f.2)
+    let f = c.fsync.ensures.foreign other in (f.0, stayed c.args.seat.now c.seat.inside.seats.items g.row.K c.in-Some-get_mut.own.now c.fsync.new.own c.seat.view_is c.in-Some-get_mut.ensures.value f.1, ap (λ h. record { shard = c.args.handle.now.shard; handle = h }) f.2)
 
 pub returns-clause-seated : goal.returns-clause-seated
 returns-clause-seated g c =
