@@ -51,7 +51,7 @@ impl Plain {
         Plain {
             file,
             bytes: Vec::new(alloc),
-            seed: file + 1,
+            seed: file.wrapping_add(1),
         }
     }
 
