@@ -82,14 +82,15 @@ impl Crew {
             second,
             evictor,
         } = self;
+        // Where no thread can be had the second runs first: a flusher without I/O workers would fill the ring, and callers wait for good.
         join(
             rt,
             move ||
-                requires { IsWorkerOf cache.now.ring B.name B.table B.deeds B.sizes first × IsWorkerOf cache.now.ring B.name B.table B.deeds B.sizes second }
-            { carry_out(rt, cache, first, second) },
-            move ||
                 requires { IsWorkerOf cache.now.ring B.name B.table B.deeds B.sizes flusher × IsWorkerOf cache.now.ring B.name B.table B.deeds B.sizes evictor }
             { make_room(rt, cache, flusher, evictor) },
+            move ||
+                requires { IsWorkerOf cache.now.ring B.name B.table B.deeds B.sizes first × IsWorkerOf cache.now.ring B.name B.table B.deeds B.sizes second }
+            { carry_out(rt, cache, first, second) },
         )
     }
 }
