@@ -1,6 +1,6 @@
 -- An end is of a request in flight: the deed of its block was out for it. So no test of it holds, and it has its room.
 use Rattle.std.proofs.Common.{◌≡◌, ℕ, true, List, refl, ap, sym, subst, ◌∙◌}
-use Rattle.std.specs.Prelude.{Bool, IsOk, Option, Some, None, Result, Ok, Err}
+use Rattle.std.specs.Prelude.{Bool, IsOk, Some, None, Result, Ok, Err}
 use Rattle.std.specs.FinMap as map
 use Rattle.blockdev.specs.Device as device
 use Rattle.blockdev.specs.Jobs.{FinishedTask}
@@ -9,11 +9,8 @@ use Rattle.cachecore.specs.declared.answers.Ended.{Ended}
 use Rattle.cachecore.specs.declared.answers.RefusedEnd.{RefusedEnd}
 use Rattle.deeds.specs.Shown.{Settles}
 use Rattle.deeds.specs.declared.views.Place.{Place}
-use Rattle.machine.specs.declared.event.End.{End}
 use Rattle.machine.specs.declared.event.Event.TheVariants as event
 use Rattle.machine.specs.declared.event.Outcome.{Outcome}
-use Rattle.machine.specs.declared.event.Reply.{Reply}
-use Rattle.machine.specs.declared.event.Reply.TheVariants as reply
 use Rattle.machine.specs.State.{State, Request}
 use Rattle.machine.specs.Step.{Step}
 use Rattle.machine.specs.Tests.{fits, tests}

@@ -1,5 +1,5 @@
 -- The begins of requests with the deeds of their blocks.
-use Rattle.std.specs.Prelude.{◌≡◌, List, Option, Some, None, Result, Ok, Err, slice_get, slice_set}
+use Rattle.std.specs.Prelude.{◌≡◌, List, Option, Some, None, Result, Ok, slice_get, slice_set}
 use Rattle.blockdev.specs.Jobs.{Task}
 use Rattle.cachecore.specs.declared.answers.FillBegun.{FillBegun}
 use Rattle.cachecore.specs.declared.answers.FillBegun.TheVariants as fill

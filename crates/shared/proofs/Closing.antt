@@ -3,40 +3,27 @@ use Rattle.std.proofs.Common.{◌≡◌, ◌≢◌, ◌⊎◌, ℕ, zero, suc, B
 use Rattle.std.specs.FinMap as map
 use Rattle.std.specs.Cmp.{nat_cmp_total, unsigned_tied}
 use Rattle.std.specs.Ordering.{eq_by_cmp, nat_cmp}
-use Rattle.std.specs.Prelude.{All, Any, Err, Ok, Option, Some, None, map as each}
+use Rattle.std.specs.Prelude.{All, Any, Option, Some, None}
 use Rattle.std.proofs.lemmas.Bool.{cond-true, eq-eqb}
 use Rattle.std.proofs.lemmas.List.{append-nil, append_assoc}
 use Rattle.std.proofs.lemmas.List.Elements.{All-append, All-nil, All-weaker}
-use Rattle.blockdev.specs.Device as device
-use Rattle.blockdev.specs.Jobs.{FinishedTask, Task}
-use Rattle.cachecore.specs.Replies.{end_of, outcome_of}
+use Rattle.blockdev.specs.Jobs.{Task}
 use Rattle.machine.specs.Changes.{ended, flush_failed, request_ended}
-use Rattle.machine.specs.History.{Leads, no_files}
 use Rattle.machine.specs.State.{Request, State}
 use Rattle.machine.specs.Step.{EndReply, Step}
-use Rattle.machine.specs.Tests.{fits, tests}
 use Rattle.machine.specs.declared.event.End.{End}
-use Rattle.machine.specs.declared.event.Event.{Event}
 use Rattle.machine.specs.declared.event.Event.TheVariants as event
 use Rattle.machine.specs.declared.event.Outcome.{Outcome}
 use Rattle.machine.specs.declared.event.Outcome.TheVariants as outcome
 use Rattle.machine.specs.declared.event.Reply.{Reply}
 use Rattle.machine.specs.declared.event.Reply.TheVariants as reply
-use Rattle.machine.proofs.steps.Ends.{of_end, own_end_passes}
-use Rattle.machine.proofs.steps.Steady.{steady}
+use Rattle.machine.proofs.steps.Ends.{of_end}
 use Rattle.pc_types.specs.Kinds.{is_flush}
-use Rattle.pc_types.specs.Limits.{Sizes}
 use Rattle.pc_types.specs.declared.kind.Kind.{Kind}
-use Rattle.pc_types.specs.declared.kind.Kind.TheVariants.{Fill, Flush}
-use Rattle.pc_types.specs.declared.refusal.Refusal.{Refusal}
 use Rattle.pc_types.specs.declared.refusal.Refusal.TheVariants.{Stranger}
-use Rattle.trail.specs.declared.entry.Entry.{Entry}
-use Rattle.trail.specs.History.{After, seatless}
 use Rattle.held.specs.declared.log.Slip.{Slip}
 use Rattle.held.specs.Entered.{Made}
 use Rattle.held.specs.Shown.{HeldSeen, SeatSeen}
-use Rattle.held.specs.Denials as under
-use Rattle.held.specs.declared.denied.Denied.{Denied}
 use Rattle.shared.specs.Workers.{AllOver, IsEndReply, IsOver, popped_by}
 use Rattle.shared.specs.declared.worker.Worker.{Worker}
 

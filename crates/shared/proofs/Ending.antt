@@ -1,6 +1,6 @@
 -- What the ends of jobs and the turns of workers say of a seat.
 use Rattle.std.proofs.Common.{◌≡◌, ℕ, zero, suc, [], ◌∷◌, ◌++◌, ap, arith, refl, sym, subst, ◌∙◌}
-use Rattle.std.specs.Prelude.{All, Bool, false, true, IfErr, IfNone, IfOk, IfSome, Ok, Option, Result, Some, None, is_none, is_some, length, option_map, take}
+use Rattle.std.specs.Prelude.{All, Bool, false, true, IfErr, IfNone, IfSome, Ok, Option, Result, Some, None, is_none, is_some, length, option_map, take}
 use Rattle.std.proofs.lemmas.List.{append_assoc, append-nil, length_push, take-append-le, take_all}
 use Rattle.std.proofs.lemmas.List.Elements.{All-append, All-nil, All-weaker}
 use Rattle.std.proofs.lemmas.Result.{IfErr-weaker}
@@ -38,15 +38,14 @@ use Rattle.held.specs.Called.{Goes}
 use Rattle.held.specs.Denials as under
 use Rattle.held.specs.Firsts.{IsFirstDenied, Writes}
 use Rattle.held.specs.declared.denied.Denied.{Denied}
-use Rattle.held.proofs.Seats.{goes_same}
 use Rattle.shared.specs.Called.{Makes}
 use Rattle.shared.specs.Denials.{IsDenied, MadeOne}
 use Rattle.shared.specs.Seen.{FailedSeen}
-use Rattle.shared.specs.Workers.{AllEnded, Begins, Ends, IsEndOf, IsEndReply, IsFlushBegin, IsOfRequest, IsOwnFailure, RefusesFirst, fails_write, popped_by}
+use Rattle.shared.specs.Workers.{AllEnded, Begins, Ends, IsEndReply, IsFlushBegin, IsOfRequest, IsOwnFailure, RefusesFirst, fails_write, popped_by}
 use Rattle.shared.specs.declared.ends.Done.{Done}
 use Rattle.shared.specs.declared.worker.Worker.{Worker}
 use Rattle.cachecore.specs.Replies.{buffer_of}
-use Rattle.shared.proofs.Making.{denied_by, denied_on, denied_one, makes_on, makes_then}
+use Rattle.shared.proofs.Making.{denied_by, denied_one, makes_on, makes_then}
 
 -- ---- one event
 

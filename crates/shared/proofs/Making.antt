@@ -13,13 +13,12 @@ use Rattle.machine.specs.declared.event.Reply.{Reply}
 use Rattle.machine.specs.declared.event.Reply.TheVariants as reply
 use Rattle.pc_types.specs.declared.ids.HandleId.{HandleId}
 use Rattle.pc_types.specs.declared.ids.PageIndex.{PageIndex}
-use Rattle.pc_types.specs.declared.kind.Kind.TheVariants.{Fill, Flush}
+use Rattle.pc_types.specs.declared.kind.Kind.TheVariants.{Fill}
 use Rattle.pc_types.specs.declared.refusal.Refusal.{Refusal}
 use Rattle.pc_types.specs.declared.refusal.Refusal.TheVariants.{Io, TrailFull}
 use Rattle.trail.specs.Entries.{entry_of, noted}
 use Rattle.pc_types.specs.Limits.{Sizes}
 use Rattle.machine.specs.Catalogs.{Catalog}
-use Rattle.machine.specs.State.{State}
 use Rattle.trail.specs.History.{After}
 use Rattle.trail.specs.Room.{Room, has_room, reserved}
 use Rattle.held.specs.Keeps.{room_after}

@@ -9,7 +9,7 @@ use Rattle.pc_types.specs.Limits.{Sizes}
 use Rattle.machine.specs.Catalogs.{Catalog, IsCatalog, adopted}
 use Rattle.machine.specs.State.{File}
 use Rattle.machine.proofs.changes.Adopted.{file_of}
-use Rattle.trail.specs.Honest.{MayBegin, world_over}
+use Rattle.trail.specs.Honest.{MayBegin}
 use Rattle.shared.specs.Keeps.{IsDisk, begun_with}
 
 -- its world, over a device that tells these blocks

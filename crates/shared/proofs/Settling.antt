@@ -1,6 +1,6 @@
 -- What calls leave behind them: requests with their ends, and fills with the entries that asked for them.
-use Rattle.std.proofs.Common.{◌≡◌, ◌<◌, ◌≤◌, ◌+◌, ◌∙◌, ℕ, Bool, true, false, List, zero, suc, [], ◌∷◌, ◌++◌, refl, ap, subst, sym, arith, append_assoc, inl, inr}
-use Rattle.std.specs.Prelude.{◌⊎◌, ◌==◌, All, Any, if◌then◌else◌, Ok, Err, Option, Some, None, Result}
+use Rattle.std.proofs.Common.{◌≡◌, ◌<◌, ◌+◌, ◌∙◌, ℕ, Bool, true, false, List, zero, suc, [], ◌∷◌, ◌++◌, refl, ap, subst, sym, arith, append_assoc, inl, inr}
+use Rattle.std.specs.Prelude.{◌⊎◌, ◌==◌, All, Any, if◌then◌else◌, Ok, Option, Some, None}
 use Rattle.std.proofs.lemmas.Bool.{eqb-true}
 use Rattle.std.proofs.lemmas.List.{append-nil}
 use Rattle.std.specs.FinMap as map
@@ -32,9 +32,8 @@ use Rattle.pc_types.specs.declared.ids.SyncId.{SyncId}
 use Rattle.pc_types.specs.declared.kind.Kind.{Kind}
 use Rattle.pc_types.specs.declared.kind.Kind.TheVariants.{Fill, Flush}
 use Rattle.pc_types.specs.declared.refusal.Refusal.{Refusal}
-use Rattle.pc_types.specs.declared.refusal.Refusal.TheVariants.{Stranger, TrailFull}
 use Rattle.trail.specs.declared.entry.Entry.{Entry}
-use Rattle.trail.specs.Entries.{end_with, entry_of, noted}
+use Rattle.trail.specs.Entries.{entry_of, noted}
 use Rattle.pc_types.specs.Limits.{Sizes}
 use Rattle.machine.specs.Catalogs.{Catalog}
 use Rattle.trail.specs.Room.{Room}
@@ -49,7 +48,7 @@ use Rattle.held.specs.Called.{Only}
 use Rattle.held.specs.Denials as under
 use Rattle.held.specs.Firsts.{IsFirstDenied, Writes}
 use Rattle.held.specs.declared.denied.Denied.{Denied}
-use Rattle.held.proofs.Seats.{only_any, only_by, only_on, only_same, only_wider}
+use Rattle.held.proofs.Seats.{only_any, only_by, only_on, only_wider}
 use Rattle.shared.specs.Changes.{event_of}
 use Rattle.shared.specs.declared.writes.Change.{Change}
 use Rattle.shared.specs.declared.writes.Change.TheVariants.{Append, Truncate, Write}

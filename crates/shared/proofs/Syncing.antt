@@ -9,8 +9,6 @@ use Rattle.errseq.proofs.Prefixes.{prefix_length}
 use Rattle.cachecore.specs.Replies.{sync_stepped}
 use Rattle.cachecore.specs.declared.answers.SyncStepped.{SyncStepped}
 use Rattle.cachecore.specs.declared.answers.SyncStepped.TheVariants as stepped
-use Rattle.machine.specs.declared.event.End.{End}
-use Rattle.machine.specs.declared.event.Event.{Event}
 use Rattle.machine.specs.declared.event.Event.TheVariants as event
 use Rattle.machine.specs.declared.event.Reply.{Reply}
 use Rattle.machine.specs.declared.event.Reply.TheVariants as reply
@@ -20,7 +18,6 @@ use Rattle.machine.proofs.steps.Cases.{answered}
 use Rattle.pc_types.specs.declared.ids.HandleId.{HandleId}
 use Rattle.pc_types.specs.declared.ids.PageIndex.{PageIndex}
 use Rattle.pc_types.specs.declared.ids.SyncId.{SyncId}
-use Rattle.pc_types.specs.declared.kind.Kind.TheVariants.{Fill, Flush}
 use Rattle.pc_types.specs.declared.refusal.Refusal.{Refusal}
 use Rattle.pc_types.specs.declared.refusal.Refusal.TheVariants.{Io, Memory, Stranger, TrailFull}
 use Rattle.trail.specs.History.{After}
@@ -45,7 +42,7 @@ use Rattle.shared.specs.Polls.{Hears, IsLevelled, Polled}
 use Rattle.shared.specs.Seen.{HandleSeen}
 use Rattle.shared.specs.Synced.{Reports, Syncs, end_reply}
 use Rattle.shared.proofs.Hearing.{hears_reported, polled_from, reports_from}
-use Rattle.shared.proofs.Making.{denied_by, denied_event, denied_on, denied_one, full_by, makes_by}
+use Rattle.shared.proofs.Making.{denied_event, denied_on, denied_one, full_by, makes_by}
 use Rattle.shared.proofs.Rooming.{final_lasting, final_on}
 
 -- ---- turns

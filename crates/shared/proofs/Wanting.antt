@@ -1,11 +1,7 @@
 -- What a call asked for before memory was wanting outside an event.
-use Rattle.std.proofs.Common.{◌≡◌, ◌⊎◌, ◌∙◌, ℕ, true, false, not, List, refl, sym, ap, subst, inl, inr}
+use Rattle.std.proofs.Common.{◌≡◌, ◌⊎◌, ◌∙◌, ℕ, true, false, List, refl, sym, ap, subst, inl, inr}
 use Rattle.std.specs.Prelude.{IfErr, Ok, Err, Option, Some, None, Result}
-use Rattle.machine.specs.State.{State}
-use Rattle.machine.specs.Step.{Step}
-use Rattle.machine.specs.Tests.{refuse, tests}
 use Rattle.machine.specs.declared.event.Event.{Event}
-use Rattle.machine.specs.declared.event.Event.TheVariants as event
 use Rattle.machine.specs.declared.event.Reply.{Reply}
 use Rattle.machine.specs.declared.event.Reply.TheVariants as reply
 use Rattle.pc_types.specs.declared.ids.HandleId.{HandleId}

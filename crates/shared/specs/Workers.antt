@@ -1,7 +1,7 @@
 -- Workers, and what their turns make.
 use Rattle.std.specs.FinMap as map
 use Rattle.std.specs.Prelude.{map as each}
-use Rattle.std.specs.Prelude.{◌≡◌, ◌≢◌, ◌⊎◌, ◌<◌, ◌≤◌, ◌==◌, ◌&&◌, ◌++◌, ◌∷◌, [], All, Any, ℕ, Bool, true, false, List, IfSome, Ok, Result, None, Some, count_by, if◌then◌else◌, is_some, length, take}
+use Rattle.std.specs.Prelude.{◌≡◌, ◌⊎◌, ◌<◌, ◌≤◌, ◌==◌, ◌&&◌, ◌++◌, ◌∷◌, [], All, Any, ℕ, Bool, true, false, List, IfSome, Ok, None, Some, count_by, is_some, length, take}
 use mathlib.Core.List.{IsPrefix}
 use Rattle.atomic_table.specs.Seated.{TableId}
 use Rattle.blockdev.specs.Jobs.{Task}
@@ -17,7 +17,7 @@ use Rattle.machine.specs.declared.event.Event.{Event}
 use Rattle.machine.specs.declared.event.Event.TheVariants as event
 use Rattle.machine.specs.declared.event.Reply.{Reply}
 use Rattle.machine.specs.declared.event.Reply.TheVariants as reply
-use Rattle.machine.specs.State.{Request, State, free_frames}
+use Rattle.machine.specs.State.{State, free_frames}
 use Rattle.machine.specs.Step.{Step}
 use Rattle.machine.specs.Tests.{has_idle}
 use Rattle.pc_types.specs.Limits.{Sizes}
@@ -26,7 +26,6 @@ use Rattle.pc_types.specs.declared.ids.FileId.{FileId}
 use Rattle.pc_types.specs.declared.kind.Kind.{Kind}
 use Rattle.pc_types.specs.declared.kind.Kind.TheVariants.{Flush}
 use Rattle.pc_types.specs.declared.refusal.Refusal.{Refusal}
-use Rattle.pc_types.specs.declared.refusal.Refusal.TheVariants.{TrailFull}
 use Rattle.ring.specs.Order.{Stands}
 use Rattle.ring.specs.Serving.{Carries, Serves}
 use Rattle.ring.specs.declared.log.Log.{Log}
@@ -37,9 +36,7 @@ use Rattle.held.specs.declared.log.Slip.{Slip}
 use Rattle.held.specs.Shown.{SeatSeen}
 use Rattle.held.specs.Called.{Only}
 use Rattle.held.specs.Views.{count_of}
-use Rattle.held.specs.declared.denied.Denied.{Denied}
 use Rattle.shared.specs.Called.{Makes}
-use Rattle.shared.specs.Denials.{IsDenied, IsFullIfNoSlip}
 use Rattle.shared.specs.Seen.{FailedSeen}
 use Rattle.shared.specs.declared.turns.Flushed.{Flushed}
 use Rattle.shared.specs.declared.turns.Flushed.TheVariants as flushed

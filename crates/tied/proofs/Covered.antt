@@ -1,7 +1,7 @@
 -- Each step of the cache keeps its desk: the deed of a block is out while a request of it is in flight.
 use Rattle.std.proofs.Common.{◌≡◌, ◌≢◌, ℕ, suc, ◌<◌, Bool, true, false, List, [], ◌∷◌, length, map, refl, ap, sym, subst}
 use Rattle.std.proofs.Common.{◌∙◌, arith, inl, inr}
-use Rattle.std.specs.Prelude.{◌⊎◌, Option, Some, None, slice_get, slice_set}
+use Rattle.std.specs.Prelude.{Option, Some, None, slice_get, slice_set}
 use Rattle.std.specs.FinMap as finmap
 use Rattle.std.specs.FinMap.{get-empty}
 use Rattle.std.specs.Ordering.{nat_cmp}
@@ -12,7 +12,7 @@ use Rattle.pc_types.specs.declared.kind.Kind.{Kind}
 use Rattle.blockdev.specs.Jobs.{Task, FinishedTask}
 use Rattle.cachecore.specs.Replies.{end_of}
 use Rattle.deeds.specs.Shown.{Settles}
-use Rattle.deeds.specs.Rules.{Knows, NoneOut}
+use Rattle.deeds.specs.Rules.{NoneOut}
 use Rattle.deeds.specs.Views.{home_in}
 use Rattle.deeds.specs.declared.views.Given.{Given}
 use Rattle.deeds.specs.declared.views.Place.{Place}
@@ -31,7 +31,7 @@ use Rattle.machine.specs.Step.{Step}
 use Rattle.machine.proofs.sound.Steps.{steps_stay_sound}
 use Rattle.runs.proofs.events.Lookups.{get-insert1, get-remove1}
 use Rattle.runs.proofs.moments.KeptRequests.{Begun, Kept, Over, is_job, of_requests, stood}
-use Rattle.runs.proofs.views.View.{put1, put1_else, put1_here, put1_tells}
+use Rattle.runs.proofs.views.View.{put1, put1_else, put1_tells}
 use Rattle.trail.specs.Honest.{end_made}
 use Rattle.trail.proofs.TrailMoves.{no_end, over_of}
 use Rattle.tied.specs.Tied.{IsCovered, IsGiven, IsOwned, IsTaskOf, task_of}

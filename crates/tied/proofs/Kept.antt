@@ -25,7 +25,7 @@ use Rattle.runs.specs.World.{World}
 use Rattle.runs.proofs.moments.KeptRequests.{is_job}
 use Rattle.trail.specs.declared.entry.Entry.{Entry}
 use Rattle.trail.specs.Entries.{entry_of}
-use Rattle.trail.specs.Honest.{MayBegin, end_made, world_over}
+use Rattle.trail.specs.Honest.{MayBegin, end_made}
 use Rattle.tied.specs.Tied.{IsHonest, IsTaskOf, IsTied}
 use Rattle.tied.proofs.Covered.{begun_home, covered_back, covered_begun, covered_first, covered_plain}
 use Rattle.tied.proofs.Tied.{tied_back, tied_begun, tied_first, tied_honest, tied_plain}

@@ -1,6 +1,6 @@
 -- Each step of the cache keeps its history tied to the device.
-use Rattle.std.proofs.Common.{◌≡◌, ◌≢◌, ℕ, ◌<◌, Bool, true, false, cond, List, [], ◌∷◌, ◌++◌, length, map, refl, ap, sym}
-use Rattle.std.proofs.Common.{subst, ◌∙◌, arith, inl, inr}
+use Rattle.std.proofs.Common.{◌≡◌, ◌≢◌, ℕ, ◌<◌, Bool, true, false, cond, List, [], ◌∷◌, ◌++◌, map, refl, ap, sym}
+use Rattle.std.proofs.Common.{subst, ◌∙◌, inl, inr}
 use Rattle.std.specs.Prelude.{Option, Some, None, slice_get, slice_set}
 use Rattle.std.specs.FinMap as finmap
 use Rattle.std.specs.Ordering.{nat_cmp}
@@ -11,9 +11,8 @@ use Rattle.pc_types.specs.declared.kind.Kind.{Kind}
 use Rattle.pc_types.specs.declared.kind.Kind.TheVariants.{Flush}
 use Rattle.blockdev.specs.Jobs.{Task, FinishedTask}
 use Rattle.cachecore.specs.Replies.{end_of, outcome_of}
-use Rattle.deeds.specs.Comes.{Leaves}
 use Rattle.deeds.specs.Rules.{Knows}
-use Rattle.deeds.specs.Shown.{Settles, bytes_of, known}
+use Rattle.deeds.specs.Shown.{Settles, known}
 use Rattle.deeds.specs.Views.{home_in}
 use Rattle.deeds.specs.declared.views.Given.{Given}
 use Rattle.deeds.specs.declared.views.Place.{Place}
@@ -44,10 +43,10 @@ use Rattle.trail.specs.Honest.{Fate, MayBegin, end_made, world_over}
 use Rattle.trail.proofs.HistoryLaws.{noted_step}
 use Rattle.trail.proofs.RunLaws.{bytes_in}
 use Rattle.trail.proofs.TrailMoves.{acted, no_job}
-use Rattle.tied.specs.Tied.{GoesTo, IsCovered, IsHonest, IsOnItsWay, IsOwned, IsTaskOf, IsToldOnce, Tied, task_of}
+use Rattle.tied.specs.Tied.{GoesTo, IsCovered, IsHonest, IsOnItsWay, IsOwned, IsTaskOf, IsToldOnce, Tied}
 use Rattle.tied.proofs.Along.{IsAlong, along, always_along}
 use Rattle.tied.proofs.Calls.{Fated, device_left, fated, get_there, still_writing}
-use Rattle.tied.proofs.Covered.{begun_home, ends_own, home_not_out, is_home, none_out, older, other_serial, owner, same_given, same_out, still_out}
+use Rattle.tied.proofs.Covered.{begun_home, ends_own, home_not_out, is_home, none_out, older, other_serial, owner, same_given, still_out}
 use Rattle.tied.proofs.Told.{goes_on, honest_of}
 
 -- ---- which end an entry makes

@@ -1,6 +1,5 @@
-use Rattle.std.proofs.Common.{rules, ◌≡◌, ◌+◌, refl, sym, subst, arith, true, false, take}
-use Rattle.runs.specs.Plain.{Plain, no_files}
-use Rattle.trail.specs.Replay.{plain_of, ReplaysFrom}
+use Rattle.std.proofs.Common.{rules, ◌≡◌, arith, true, false}
+use Rattle.trail.specs.Replay.{plain_of}
 use Rattle.trail.proofs.ReplayLaws.{fronts_on, is_first_odd, fronts_all}
 use Rattle.trail.proofs.replay.odd_from.Goals as goal
 

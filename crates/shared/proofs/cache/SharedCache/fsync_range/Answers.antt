@@ -1,4 +1,4 @@
-use Rattle.std.proofs.Common.{ap, inl, inr, refl, subst, sym, ◌⊎◌, ◌∙◌}
+use Rattle.std.proofs.Common.{ap, inr, refl, subst, sym, ◌⊎◌, ◌∙◌}
 use Rattle.std.proofs.lemmas.Result.{IfErr-weaker}
 use Rattle.std.specs.Prelude.{None}
 use Rattle.pc_types.specs.declared.ids.HandleId.{HandleId}

@@ -1,4 +1,4 @@
-use Rattle.std.proofs.Common.{◌≡◌, ◌∙◌, ap, inl, length, rules, subst, sym}
+use Rattle.std.proofs.Common.{◌≡◌, ◌∙◌, ap, length, rules, subst, sym}
 use Rattle.std.specs.Prelude.{Ok}
 use Rattle.cachecore.specs.Replies.{SyncGivesBack}
 use Rattle.cachecore.specs.declared.answers.SyncStepped.{SyncStepped}

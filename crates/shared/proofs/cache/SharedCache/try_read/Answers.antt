@@ -1,4 +1,4 @@
-use Rattle.std.proofs.Common.{◌≤◌, ◌∙◌, arith, inl, length, refl, subst, sym}
+use Rattle.std.proofs.Common.{◌≤◌, ◌∙◌, arith, length, refl, subst, sym}
 use Rattle.std.specs.Prelude.{Ok}
 use Rattle.cachecore.specs.Replies.{bytes_read, was_read}
 use Rattle.cachecore.specs.declared.answers.ReadAnswer.{ReadAnswer}

@@ -1,6 +1,5 @@
-use Rattle.std.proofs.Common.{rules, ◌≡◌, List, ℕ, [], ◌∷◌, ◌++◌, ap, ◌∙◌}
+use Rattle.std.proofs.Common.{rules, ◌≡◌, [], ◌∷◌, ◌++◌, ap, ◌∙◌}
 use Rattle.trail.proofs.PlainLaws.{whole_new}
-use Rattle.trail.specs.Replay.{plain_of}
 use Rattle.pc_types.specs.Files.{pwrite}
 use Rattle.trail.proofs.plain.PlainFiles.add.Goals as goal
 
