@@ -17,3 +17,15 @@ pub mod Sparing
 pub mod Wanting
 pub mod Carrying
 pub mod Settling
+pub mod ShardBack
+pub mod ShardHalves
+pub mod ShardPlaces
+pub mod ShardRowing
+pub mod ShardSeated
+pub mod ShardMaking
+pub mod ShardPlacing
+pub mod ShardFroms
+pub mod ShardEnding
+pub mod ShardStaffing
+pub mod ShardWorking
+pub mod ShardArms

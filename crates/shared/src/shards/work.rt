@@ -1,0 +1,310 @@
+//! Workers' turns and loops, in a shard.
+
+ghost use Rattle.std.specs.Prelude.{◌≡◌, ◌<◌, Some, length};
+ghost use Rattle.shared.specs.ShardWorkers.{AreWorkers, IsWorkerAt, WorksAt};
+ghost use Rattle.shared.specs.ShardWorks.{EndsAll, EndsOne, LetsPages, LetsSome, WritesBack, WritesOne};
+
+use crate::cache::SharedCache;
+use crate::ends::Done;
+use crate::shards::cache::ShardedCache;
+use crate::shards::naming::{Shard, ShardNaming};
+use crate::shards::place::{Place, at_shard};
+use crate::shards::worker::ShardWorker;
+use crate::turns::Flushed;
+use crate::worker::Worker;
+use blockdev::{BlockDevice, Gate};
+use held::denied::Denied;
+use std::sync::Wait;
+use trail::Trail;
+
+impl<B: ShardNaming, D: BlockDevice, T: Trail, const K: u64> SharedCache<Shard<B, K>, D, T> {
+    fn io_turn_in<R: Wait, G: Gate>(&self, rt: &R, gate: &G, worker: &mut Worker) -> Option<Done>
+        requires ring { (B.names K).ring ≡ Some self.now.ring }
+        requires worker { IsWorkerAt (B.names K) worker.old }
+        ensures turn { EndsOne (B.names K) (G.passed gate.now) result worker.old worker.new }
+    {
+        self.io_turn(rt, gate, worker)
+    }
+
+    fn flusher_turn_in<R: Wait, G: Gate>(
+        &self,
+        rt: &R,
+        gate: &G,
+        worker: &mut Worker,
+    ) -> Result<Flushed, Denied>
+        requires ring { (B.names K).ring ≡ Some self.now.ring }
+        requires worker { IsWorkerAt (B.names K) worker.old }
+        ensures turn { WritesOne (B.names K) result worker.old worker.new }
+    {
+        self.flusher_turn(rt, gate, worker)
+    }
+
+    fn evictor_turn_in<R: Wait, G: Gate>(
+        &self,
+        rt: &R,
+        gate: &G,
+        worker: &mut Worker,
+    ) -> Result<u64, Denied>
+        requires ring { (B.names K).ring ≡ Some self.now.ring }
+        requires worker { IsWorkerAt (B.names K) worker.old }
+        ensures turn { LetsSome (B.names K) result worker.old worker.new }
+    {
+        self.evictor_turn(rt, gate, worker)
+    }
+
+    fn io_worker_in<R: Wait, G: Gate>(&self, rt: &R, gate: &G, worker: &mut Worker)
+        requires ring { (B.names K).ring ≡ Some self.now.ring }
+        requires worker { IsWorkerAt (B.names K) worker.old }
+        ensures turn { EndsAll (B.names K) worker.old worker.new }
+    {
+        self.io_worker(rt, gate, worker)
+    }
+
+    fn flusher_in<R: Wait, G: Gate>(&self, rt: &R, gate: &G, worker: &mut Worker)
+        requires ring { (B.names K).ring ≡ Some self.now.ring }
+        requires worker { IsWorkerAt (B.names K) worker.old }
+        ensures turn { WritesBack (B.names K) worker.old worker.new }
+    {
+        self.flusher(rt, gate, worker)
+    }
+
+    fn evictor_in<R: Wait, G: Gate>(&self, rt: &R, gate: &G, worker: &mut Worker)
+        requires ring { (B.names K).ring ≡ Some self.now.ring }
+        requires worker { IsWorkerAt (B.names K) worker.old }
+        ensures turn { LetsPages (B.names K) worker.old worker.new }
+    {
+        self.evictor(rt, gate, worker)
+    }
+}
+
+impl<B: ShardNaming, D: BlockDevice, T: Trail, const K: u64> Place<B, D, T, K> {
+    pub(crate) fn io_turn<R: Wait, G: Gate>(
+        &self,
+        rt: &R,
+        gate: &G,
+        worker: &mut ShardWorker,
+    ) -> Option<Done>
+        requires there { (K < B.shards) × (length worker.old ≡ B.shards) }
+        requires workers { AreWorkers B.names worker.old }
+        ensures turn { WorksAt K (EndsOne (B.names K) (G.passed gate.now) result) worker.old worker.new }
+        ensures workers { AreWorkers B.names worker.new }
+    {
+        let Some(cache) = self.cache() else {
+            unreachable!()
+        };
+        let Some(own) = worker.workers.get_mut(K as usize) else {
+            unreachable!()
+        };
+        cache.io_turn_in(rt, gate, own)
+    }
+
+    pub(crate) fn flusher_turn<R: Wait, G: Gate>(
+        &self,
+        rt: &R,
+        gate: &G,
+        worker: &mut ShardWorker,
+    ) -> Result<Flushed, Denied>
+        requires there { (K < B.shards) × (length worker.old ≡ B.shards) }
+        requires workers { AreWorkers B.names worker.old }
+        ensures turn { WorksAt K (WritesOne (B.names K) result) worker.old worker.new }
+        ensures workers { AreWorkers B.names worker.new }
+    {
+        let Some(cache) = self.cache() else {
+            unreachable!()
+        };
+        let Some(own) = worker.workers.get_mut(K as usize) else {
+            unreachable!()
+        };
+        cache.flusher_turn_in(rt, gate, own)
+    }
+
+    pub(crate) fn evictor_turn<R: Wait, G: Gate>(
+        &self,
+        rt: &R,
+        gate: &G,
+        worker: &mut ShardWorker,
+    ) -> Result<u64, Denied>
+        requires there { (K < B.shards) × (length worker.old ≡ B.shards) }
+        requires workers { AreWorkers B.names worker.old }
+        ensures turn { WorksAt K (LetsSome (B.names K) result) worker.old worker.new }
+        ensures workers { AreWorkers B.names worker.new }
+    {
+        let Some(cache) = self.cache() else {
+            unreachable!()
+        };
+        let Some(own) = worker.workers.get_mut(K as usize) else {
+            unreachable!()
+        };
+        cache.evictor_turn_in(rt, gate, own)
+    }
+
+    pub(crate) fn io_worker<R: Wait, G: Gate>(&self, rt: &R, gate: &G, worker: &mut ShardWorker)
+        requires there { (K < B.shards) × (length worker.old ≡ B.shards) }
+        requires workers { AreWorkers B.names worker.old }
+        ensures turn { WorksAt K (EndsAll (B.names K)) worker.old worker.new }
+        ensures workers { AreWorkers B.names worker.new }
+    {
+        let Some(cache) = self.cache() else {
+            unreachable!()
+        };
+        let Some(own) = worker.workers.get_mut(K as usize) else {
+            unreachable!()
+        };
+        cache.io_worker_in(rt, gate, own)
+    }
+
+    pub(crate) fn flusher<R: Wait, G: Gate>(&self, rt: &R, gate: &G, worker: &mut ShardWorker)
+        requires there { (K < B.shards) × (length worker.old ≡ B.shards) }
+        requires workers { AreWorkers B.names worker.old }
+        ensures turn { WorksAt K (WritesBack (B.names K)) worker.old worker.new }
+        ensures workers { AreWorkers B.names worker.new }
+    {
+        let Some(cache) = self.cache() else {
+            unreachable!()
+        };
+        let Some(own) = worker.workers.get_mut(K as usize) else {
+            unreachable!()
+        };
+        cache.flusher_in(rt, gate, own)
+    }
+
+    pub(crate) fn evictor<R: Wait, G: Gate>(&self, rt: &R, gate: &G, worker: &mut ShardWorker)
+        requires there { (K < B.shards) × (length worker.old ≡ B.shards) }
+        requires workers { AreWorkers B.names worker.old }
+        ensures turn { WorksAt K (LetsPages (B.names K)) worker.old worker.new }
+        ensures workers { AreWorkers B.names worker.new }
+    {
+        let Some(cache) = self.cache() else {
+            unreachable!()
+        };
+        let Some(own) = worker.workers.get_mut(K as usize) else {
+            unreachable!()
+        };
+        cache.evictor_in(rt, gate, own)
+    }
+
+    /// Tells this shard's workers to stop.
+    fn stop<R: Wait>(&self, rt: &R) {
+        if let Some(cache) = self.cache() {
+            cache.stop(rt);
+        }
+    }
+}
+
+impl<B: ShardNaming, D: BlockDevice, T: Trail> ShardedCache<B, D, T> {
+    /// One turn of an I/O worker of a shard: it takes a job from the shard's ring, makes its device call, and ends its request. Answers
+    /// nothing only where the ring was empty at one moment of the turn. The gate is entered with the job's serial, before the device call.
+    pub fn io_turn<R: Wait, G: Gate>(
+        &self,
+        rt: &R,
+        gate: &G,
+        shard: u64,
+        worker: &mut ShardWorker,
+    ) -> Option<Done>
+        requires there { (shard < B.shards) × (length worker.old ≡ B.shards) }
+        requires workers { AreWorkers B.names worker.old }
+        ensures turn { WorksAt shard (EndsOne (B.names shard) (G.passed gate.now) result) worker.old worker.new }
+        ensures workers { AreWorkers B.names worker.new }
+        ensures count { length worker.new ≡ B.shards }
+    {
+        at_shard!(self, shard, io_turn(rt, gate, worker), unreachable!())
+    }
+
+    /// One turn of a flusher of a shard: it begins to write the lowest page of the first file that has one to write, and puts the job into
+    /// the shard's ring. Where the ring is full it makes the device call itself, for which the gate is entered with the job's serial.
+    /// Refused only where no write was begun.
+    pub fn flusher_turn<R: Wait, G: Gate>(
+        &self,
+        rt: &R,
+        gate: &G,
+        shard: u64,
+        worker: &mut ShardWorker,
+    ) -> Result<Flushed, Denied>
+        requires there { (shard < B.shards) × (length worker.old ≡ B.shards) }
+        requires workers { AreWorkers B.names worker.old }
+        ensures turn { WorksAt shard (WritesOne (B.names shard) result) worker.old worker.new }
+        ensures workers { AreWorkers B.names worker.new }
+        ensures count { length worker.new ≡ B.shards }
+    {
+        at_shard!(self, shard, flusher_turn(rt, gate, worker), unreachable!())
+    }
+
+    /// One turn of an evictor of a shard: while few frames are free, pages of the active list age and the first idle page goes. It ends
+    /// where enough are free, or no page is idle, and answers how many pages went. Refused by a full trail alone. The gate is entered with
+    /// 0 before each.
+    pub fn evictor_turn<R: Wait, G: Gate>(
+        &self,
+        rt: &R,
+        gate: &G,
+        shard: u64,
+        worker: &mut ShardWorker,
+    ) -> Result<u64, Denied>
+        requires there { (shard < B.shards) × (length worker.old ≡ B.shards) }
+        requires workers { AreWorkers B.names worker.old }
+        ensures turn { WorksAt shard (LetsSome (B.names shard) result) worker.old worker.new }
+        ensures workers { AreWorkers B.names worker.new }
+        ensures count { length worker.new ≡ B.shards }
+    {
+        at_shard!(self, shard, evictor_turn(rt, gate, worker), unreachable!())
+    }
+
+    /// Carries out the jobs of a shard's ring, and sleeps where there are none. Told to stop, it goes on till no flusher of the shard is in
+    /// its loop and the ring is empty.
+    pub fn io_worker<R: Wait, G: Gate>(
+        &self,
+        rt: &R,
+        gate: &G,
+        shard: u64,
+        worker: &mut ShardWorker,
+    )
+        requires there { (shard < B.shards) × (length worker.old ≡ B.shards) }
+        requires workers { AreWorkers B.names worker.old }
+        ensures turn { WorksAt shard (EndsAll (B.names shard)) worker.old worker.new }
+        ensures workers { AreWorkers B.names worker.new }
+        ensures count { length worker.new ≡ B.shards }
+    {
+        at_shard!(self, shard, io_worker(rt, gate, worker), unreachable!())
+    }
+
+    /// Writes pages of a shard back while there are any to write, and sleeps where there are none, until it is told to stop.
+    pub fn flusher<R: Wait, G: Gate>(&self, rt: &R, gate: &G, shard: u64, worker: &mut ShardWorker)
+        requires there { (shard < B.shards) × (length worker.old ≡ B.shards) }
+        requires workers { AreWorkers B.names worker.old }
+        ensures turn { WorksAt shard (WritesBack (B.names shard)) worker.old worker.new }
+        ensures workers { AreWorkers B.names worker.new }
+        ensures count { length worker.new ≡ B.shards }
+    {
+        at_shard!(self, shard, flusher(rt, gate, worker), unreachable!())
+    }
+
+    /// Lets pages of a shard go while few frames are free, and sleeps where enough are, until it is told to stop.
+    pub fn evictor<R: Wait, G: Gate>(&self, rt: &R, gate: &G, shard: u64, worker: &mut ShardWorker)
+        requires there { (shard < B.shards) × (length worker.old ≡ B.shards) }
+        requires workers { AreWorkers B.names worker.old }
+        ensures turn { WorksAt shard (LetsPages (B.names shard)) worker.old worker.new }
+        ensures workers { AreWorkers B.names worker.new }
+        ensures count { length worker.new ≡ B.shards }
+    {
+        at_shard!(self, shard, evictor(rt, gate, worker), unreachable!())
+    }
+
+    /// Tells the workers of all shards to stop. It waits for none of them.
+    pub fn stop<R: Wait>(&self, rt: &R) {
+        self.place_0.stop(rt);
+        self.place_1.stop(rt);
+        self.place_2.stop(rt);
+        self.place_3.stop(rt);
+        self.place_4.stop(rt);
+        self.place_5.stop(rt);
+        self.place_6.stop(rt);
+        self.place_7.stop(rt);
+        self.place_8.stop(rt);
+        self.place_9.stop(rt);
+        self.place_10.stop(rt);
+        self.place_11.stop(rt);
+        self.place_12.stop(rt);
+        self.place_13.stop(rt);
+        self.place_14.stop(rt);
+        self.place_15.stop(rt);
+    }
+}
