@@ -17,3 +17,6 @@ pub mod Sparing
 pub mod Wanting
 pub mod Carrying
 pub mod Settling
+pub mod ShardHalves
+pub mod ShardRowing
+pub mod ShardSeated

@@ -10,3 +10,10 @@ pub mod Seeks
 pub mod Workers
 pub mod Synced
 pub mod Settled
+pub mod ShardCalls
+pub mod ShardConfigs
+pub mod ShardNames
+pub mod ShardResults
+pub mod ShardSeats
+pub mod ShardParts
+pub mod ShardWorkers

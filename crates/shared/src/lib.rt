@@ -5,7 +5,7 @@
 //! on files and handles, `reads`, `writes` and `seek` those on bytes and the cursor, `fsync` syncs, `room` has what these do on the way, and `waits`
 //! what they wait for. `worker` is who works beside the callers: `turns` has what one does in a turn, `workers` its loop, `evictor` the one that frees
 //! frames, `ends` the end of a job, and `signal` what wakes one. `facts` is what the cache tells of itself, `standing`
-//! where its files stand on the device, and `disk` the device under its lock.
+//! where its files stand on the device, and `disk` the device under its lock. `shards` is a cache of many such caches.
 //!
 //! Floor: services.
 
@@ -24,6 +24,7 @@ pub mod parts;
 mod reads;
 mod room;
 mod seek;
+pub mod shards;
 mod signal;
 mod standing;
 pub mod turns;

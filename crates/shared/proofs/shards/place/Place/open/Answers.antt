@@ -1,0 +1,23 @@
+use Rattle.std.proofs.Common.{rules, ◌≡◌, Err, IfErr, subst, sym}
+use Rattle.shared.specs.ShardCalls.{Opens}
+use Rattle.shared.proofs.ShardSeated.{called, not_named, seated_after, stayed}
+use Rattle.shared.specs.ShardResults.{opened_in}
+use Rattle.shared.proofs.shards.place.Place.open.Goals as goal
+
+pub returns-clause-foreign : goal.returns-clause-foreign
+returns-clause-foreign g c = λ there not.
+    let other = not_named (g.B.ShardNaming.names g.row.K).name c.args.seat.now c.seat.inside.seats.items g.row.K c.in-Some-get_mut.own.now c.seat.view_is (search rules) c.in-Some-get_mut.ensures.value not in
+    let f = c.open_in.ensures.foreign other in (subst (λ r. IfErr r (λ d. c.in_shard.result ≡ Err d)) f.0 c.in_shard.ensures.err, stayed c.args.seat.now c.seat.inside.seats.items g.row.K c.in-Some-get_mut.own.now c.open_in.new.own c.seat.view_is c.in-Some-get_mut.ensures.value f.1)
+
+pub returns-clause-seated : goal.returns-clause-seated
+returns-clause-seated g c =
+    seated_after g.B.ShardNaming.names c.args.seat.now c.seat.inside.seats.items g.row.K c.in-Some-get_mut.own.now c.open_in.new.own c.seat.view_is (search rules) c.in-Some-get_mut.ensures.value c.requires.seat
+    c.open_in.ensures.goes
+
+pub returns-clause-call : goal.returns-clause-call
+returns-clause-call g c = λ there. called
+    (λ a b. Opens (g.B.ShardNaming.names g.row.K) c.args.file c.args.append (opened_in c.in_shard.result) a b)
+    (g.B.ShardNaming.names g.row.K).name c.args.seat.now c.seat.inside.seats.items g.row.K c.in-Some-get_mut.own.now c.open_in.new.own c.seat.view_is (search rules) c.in-Some-get_mut.ensures.value (λ named. subst (λ r. Opens (g.B.ShardNaming.names g.row.K) c.args.file c.args.append r c.in-Some-get_mut.own.now c.open_in.new.own) (sym c.in_shard.ensures.is) (c.open_in.ensures.call named))
+
+pub returns-clause-board : goal.returns-clause-board
+returns-clause-board g c = c.in_shard.ensures.board (g.B.ShardNaming.names g.row.K).board c.open_in.ensures.board

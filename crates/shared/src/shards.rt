@@ -1,0 +1,20 @@
+//! A cache of many locks: 1 to 16 caches, each with its lock and its device, as one.
+//!
+//! File F stands in shard F mod n, as that shard's file F / n. A thread that works in one shard waits for no other shard's lock and no
+//! other shard's device. `naming` has what a program names, `parts` what the cache is made of, `cache` the cache, `place` the place of a
+//! shard in it, `seat` and `handle` what a caller has; `files`, `bytes`, `sync` and `work` have the calls.
+
+mod bytes;
+pub mod cache;
+mod config;
+pub mod denied;
+mod files;
+pub mod handle;
+pub mod naming;
+pub mod parts;
+mod place;
+mod rows;
+pub mod seat;
+pub mod sync;
+mod work;
+pub mod worker;

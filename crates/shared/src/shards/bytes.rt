@@ -1,0 +1,478 @@
+//! Reads, writes, and where the next one begins.
+
+ghost use Rattle.std.specs.Prelude.{◌≡◌, ◌≢◌, ◌<◌, ◌≤◌, Err, None, false, true};
+ghost use Rattle.pc_types.specs.declared.refusal.Refusal.TheVariants.{BadHandle, Stranger};
+ghost use Rattle.held.specs.Called.{Goes};
+ghost use Rattle.shared.specs.ShardCalls.{Cuts, Measures, Moves, Reads, ReadsOn, Writes, WritesOn};
+ghost use Rattle.shared.specs.ShardSeats.{AreSeated, OnlyAt, is_of, part};
+
+use crate::cache::SharedCache;
+use crate::handle::Handle;
+use crate::shards::cache::ShardedCache;
+use crate::shards::handle::ShardHandle;
+use crate::shards::naming::{Shard, ShardNaming};
+use crate::shards::place::{Place, at_shard};
+use crate::shards::seat::ShardSeat;
+use crate::writes::Wrote;
+use blockdev::BlockDevice;
+use cursor::Seek;
+use held::denied::{Denied, without_slip};
+use held::log::{Seat, Slip};
+use pc_types::Refusal;
+use std::sync::Wait;
+use trail::Trail;
+
+impl<B: ShardNaming, D: BlockDevice, T: Trail, const K: u64> SharedCache<Shard<B, K>, D, T> {
+    fn pread_in<R: Wait>(
+        &self,
+        rt: &R,
+        own: &mut Seat,
+        handle: &Handle,
+        offset: u64,
+        out: &mut [u8],
+    ) -> Result<(u64, Slip), Denied>
+        requires seat { own.old.name ≡ (B.names K).name → own.old.table ≡ (B.names K).table }
+        ensures goes { Goes own.old own.new }
+        ensures foreign { own.old.name ≢ (B.names K).name → (result ≡ Err (record { refusal = Stranger; slip = None })) × (own.new ≡ own.old) × (out.new ≡ out.old) }
+        ensures call { own.old.name ≡ (B.names K).name → Reads (B.names K) handle.now offset out.old out.new result own.old own.new }
+    {
+        self.pread(rt, own, handle, offset, out)
+    }
+
+    fn read_in<R: Wait>(
+        &self,
+        rt: &R,
+        own: &mut Seat,
+        handle: &mut Handle,
+        out: &mut [u8],
+    ) -> Result<(u64, Slip), Denied>
+        requires seat { own.old.name ≡ (B.names K).name → own.old.table ≡ (B.names K).table }
+        ensures goes { Goes own.old own.new }
+        ensures foreign { own.old.name ≢ (B.names K).name → (result ≡ Err (record { refusal = Stranger; slip = None })) × (own.new ≡ own.old) × (out.new ≡ out.old) × (handle.new ≡ handle.old) }
+        ensures same { handle.new ≡ record handle.old { cursor = handle.new.cursor } }
+        ensures call { own.old.name ≡ (B.names K).name → ReadsOn (B.names K) handle.old handle.new out.old out.new result own.old own.new }
+    {
+        self.read(rt, own, handle, out)
+    }
+
+    fn seek_in<R: Wait>(
+        &self,
+        rt: &R,
+        own: &mut Seat,
+        handle: &mut Handle,
+        place: Seek,
+    ) -> Result<(u64, Option<Slip>), Denied>
+        requires seat { own.old.name ≡ (B.names K).name → own.old.table ≡ (B.names K).table }
+        ensures goes { Goes own.old own.new }
+        ensures foreign { own.old.name ≢ (B.names K).name → (result ≡ Err (record { refusal = Stranger; slip = None })) × (own.new ≡ own.old) × (handle.new ≡ handle.old) }
+        ensures same { handle.new ≡ record handle.old { cursor = handle.new.cursor } }
+        ensures call { own.old.name ≡ (B.names K).name → Moves (B.names K) place handle.old handle.new result own.old own.new }
+    {
+        self.seek(rt, own, handle, place)
+    }
+
+    fn pwrite_in<R: Wait>(
+        &self,
+        rt: &R,
+        own: &mut Seat,
+        handle: &Handle,
+        offset: u64,
+        bytes: &[u8],
+    ) -> Result<(Wrote, Slip), Denied>
+        requires seat { own.old.name ≡ (B.names K).name → own.old.table ≡ (B.names K).table }
+        ensures goes { Goes own.old own.new }
+        ensures foreign { own.old.name ≢ (B.names K).name → (result ≡ Err (record { refusal = Stranger; slip = None })) × (own.new ≡ own.old) }
+        ensures call { own.old.name ≡ (B.names K).name → Writes (B.names K) handle.now offset bytes.now result own.old own.new }
+    {
+        self.pwrite(rt, own, handle, offset, bytes)
+    }
+
+    fn write_in<R: Wait>(
+        &self,
+        rt: &R,
+        own: &mut Seat,
+        handle: &mut Handle,
+        bytes: &[u8],
+    ) -> Result<(Wrote, Slip), Denied>
+        requires seat { own.old.name ≡ (B.names K).name → own.old.table ≡ (B.names K).table }
+        ensures goes { Goes own.old own.new }
+        ensures foreign { own.old.name ≢ (B.names K).name → (result ≡ Err (record { refusal = Stranger; slip = None })) × (own.new ≡ own.old) × (handle.new ≡ handle.old) }
+        ensures same { handle.new ≡ record handle.old { cursor = handle.new.cursor } }
+        ensures call { own.old.name ≡ (B.names K).name → WritesOn (B.names K) handle.old handle.new bytes.now result own.old own.new }
+    {
+        self.write(rt, own, handle, bytes)
+    }
+
+    fn truncate_in<R: Wait>(
+        &self,
+        rt: &R,
+        own: &mut Seat,
+        handle: &Handle,
+        size: u64,
+    ) -> Result<Slip, Denied>
+        requires seat { own.old.name ≡ (B.names K).name → own.old.table ≡ (B.names K).table }
+        ensures goes { Goes own.old own.new }
+        ensures foreign { own.old.name ≢ (B.names K).name → (result ≡ Err (record { refusal = Stranger; slip = None })) × (own.new ≡ own.old) }
+        ensures call { own.old.name ≡ (B.names K).name → Cuts (B.names K) handle.now size result own.old own.new }
+    {
+        self.truncate(rt, own, handle, size)
+    }
+
+    fn size_in<R: Wait>(
+        &self,
+        rt: &R,
+        own: &mut Seat,
+        handle: &Handle,
+    ) -> Result<(u64, Slip), Denied>
+        requires seat { own.old.name ≡ (B.names K).name → own.old.table ≡ (B.names K).table }
+        ensures goes { Goes own.old own.new }
+        ensures foreign { own.old.name ≢ (B.names K).name → (result ≡ Err (record { refusal = Stranger; slip = None })) × (own.new ≡ own.old) }
+        ensures call { own.old.name ≡ (B.names K).name → Measures (B.names K) handle.now result own.old own.new }
+    {
+        self.size(rt, own, handle)
+    }
+}
+
+impl<B: ShardNaming, D: BlockDevice, T: Trail, const K: u64> Place<B, D, T, K> {
+    #[tactic(auto, using(crate::proofs::ShardSeated::seated_on))]
+    pub(crate) fn pread<R: Wait>(
+        &self,
+        rt: &R,
+        seat: &mut ShardSeat,
+        handle: &ShardHandle,
+        offset: u64,
+        out: &mut [u8],
+    ) -> Result<(u64, Slip), Denied>
+        requires seat { AreSeated B.names seat.old }
+        ensures absent { B.shards ≤ K → (result ≡ Err (record { refusal = BadHandle; slip = None })) × (seat.new ≡ seat.old) × (out.new ≡ out.old) }
+        ensures foreign { K < B.shards → is_of (B.names K).name seat.old K ≡ false → (result ≡ Err (record { refusal = Stranger; slip = None })) × (seat.new ≡ seat.old) × (out.new ≡ out.old) }
+        ensures others { OnlyAt K seat.old seat.new }
+        ensures seated { AreSeated B.names seat.new }
+        ensures call { K < B.shards → is_of (B.names K).name seat.old K ≡ true → Reads (B.names K) handle.now.handle offset out.old out.new result (part seat.old K) (part seat.new K) }
+    {
+        let Some(cache) = self.caches.first() else {
+            return Err(without_slip(Refusal::BadHandle));
+        };
+        let Some(own) = seat.seats.get_mut(K as usize) else {
+            return Err(without_slip(Refusal::Stranger));
+        };
+        cache.pread_in(rt, own, &handle.handle, offset, out)
+    }
+
+    #[tactic(auto, using(crate::proofs::ShardSeated::seated_on))]
+    pub(crate) fn read<R: Wait>(
+        &self,
+        rt: &R,
+        seat: &mut ShardSeat,
+        handle: &mut ShardHandle,
+        out: &mut [u8],
+    ) -> Result<(u64, Slip), Denied>
+        requires seat { AreSeated B.names seat.old }
+        ensures absent { B.shards ≤ K → (result ≡ Err (record { refusal = BadHandle; slip = None })) × (seat.new ≡ seat.old) × (out.new ≡ out.old) × (handle.new ≡ handle.old) }
+        ensures foreign { K < B.shards → is_of (B.names K).name seat.old K ≡ false → (result ≡ Err (record { refusal = Stranger; slip = None })) × (seat.new ≡ seat.old) × (out.new ≡ out.old) × (handle.new ≡ handle.old) }
+        ensures others { OnlyAt K seat.old seat.new }
+        ensures seated { AreSeated B.names seat.new }
+        ensures same { (handle.new.shard ≡ handle.old.shard) × (handle.new.handle ≡ record handle.old.handle { cursor = handle.new.handle.cursor }) }
+        ensures call { K < B.shards → is_of (B.names K).name seat.old K ≡ true → ReadsOn (B.names K) handle.old.handle handle.new.handle out.old out.new result (part seat.old K) (part seat.new K) }
+    {
+        let Some(cache) = self.caches.first() else {
+            return Err(without_slip(Refusal::BadHandle));
+        };
+        let Some(own) = seat.seats.get_mut(K as usize) else {
+            return Err(without_slip(Refusal::Stranger));
+        };
+        cache.read_in(rt, own, &mut handle.handle, out)
+    }
+
+    #[tactic(auto, using(crate::proofs::ShardSeated::seated_on))]
+    pub(crate) fn seek<R: Wait>(
+        &self,
+        rt: &R,
+        seat: &mut ShardSeat,
+        handle: &mut ShardHandle,
+        place: Seek,
+    ) -> Result<(u64, Option<Slip>), Denied>
+        requires seat { AreSeated B.names seat.old }
+        ensures absent { B.shards ≤ K → (result ≡ Err (record { refusal = BadHandle; slip = None })) × (seat.new ≡ seat.old) × (handle.new ≡ handle.old) }
+        ensures foreign { K < B.shards → is_of (B.names K).name seat.old K ≡ false → (result ≡ Err (record { refusal = Stranger; slip = None })) × (seat.new ≡ seat.old) × (handle.new ≡ handle.old) }
+        ensures others { OnlyAt K seat.old seat.new }
+        ensures seated { AreSeated B.names seat.new }
+        ensures same { (handle.new.shard ≡ handle.old.shard) × (handle.new.handle ≡ record handle.old.handle { cursor = handle.new.handle.cursor }) }
+        ensures call { K < B.shards → is_of (B.names K).name seat.old K ≡ true → Moves (B.names K) place handle.old.handle handle.new.handle result (part seat.old K) (part seat.new K) }
+    {
+        let Some(cache) = self.caches.first() else {
+            return Err(without_slip(Refusal::BadHandle));
+        };
+        let Some(own) = seat.seats.get_mut(K as usize) else {
+            return Err(without_slip(Refusal::Stranger));
+        };
+        cache.seek_in(rt, own, &mut handle.handle, place)
+    }
+
+    #[tactic(auto, using(crate::proofs::ShardSeated::seated_on))]
+    pub(crate) fn pwrite<R: Wait>(
+        &self,
+        rt: &R,
+        seat: &mut ShardSeat,
+        handle: &ShardHandle,
+        offset: u64,
+        bytes: &[u8],
+    ) -> Result<(Wrote, Slip), Denied>
+        requires seat { AreSeated B.names seat.old }
+        ensures absent { B.shards ≤ K → (result ≡ Err (record { refusal = BadHandle; slip = None })) × (seat.new ≡ seat.old) }
+        ensures foreign { K < B.shards → is_of (B.names K).name seat.old K ≡ false → (result ≡ Err (record { refusal = Stranger; slip = None })) × (seat.new ≡ seat.old) }
+        ensures others { OnlyAt K seat.old seat.new }
+        ensures seated { AreSeated B.names seat.new }
+        ensures call { K < B.shards → is_of (B.names K).name seat.old K ≡ true → Writes (B.names K) handle.now.handle offset bytes.now result (part seat.old K) (part seat.new K) }
+    {
+        let Some(cache) = self.caches.first() else {
+            return Err(without_slip(Refusal::BadHandle));
+        };
+        let Some(own) = seat.seats.get_mut(K as usize) else {
+            return Err(without_slip(Refusal::Stranger));
+        };
+        cache.pwrite_in(rt, own, &handle.handle, offset, bytes)
+    }
+
+    #[tactic(auto, using(crate::proofs::ShardSeated::seated_on))]
+    pub(crate) fn write<R: Wait>(
+        &self,
+        rt: &R,
+        seat: &mut ShardSeat,
+        handle: &mut ShardHandle,
+        bytes: &[u8],
+    ) -> Result<(Wrote, Slip), Denied>
+        requires seat { AreSeated B.names seat.old }
+        ensures absent { B.shards ≤ K → (result ≡ Err (record { refusal = BadHandle; slip = None })) × (seat.new ≡ seat.old) × (handle.new ≡ handle.old) }
+        ensures foreign { K < B.shards → is_of (B.names K).name seat.old K ≡ false → (result ≡ Err (record { refusal = Stranger; slip = None })) × (seat.new ≡ seat.old) × (handle.new ≡ handle.old) }
+        ensures others { OnlyAt K seat.old seat.new }
+        ensures seated { AreSeated B.names seat.new }
+        ensures same { (handle.new.shard ≡ handle.old.shard) × (handle.new.handle ≡ record handle.old.handle { cursor = handle.new.handle.cursor }) }
+        ensures call { K < B.shards → is_of (B.names K).name seat.old K ≡ true → WritesOn (B.names K) handle.old.handle handle.new.handle bytes.now result (part seat.old K) (part seat.new K) }
+    {
+        let Some(cache) = self.caches.first() else {
+            return Err(without_slip(Refusal::BadHandle));
+        };
+        let Some(own) = seat.seats.get_mut(K as usize) else {
+            return Err(without_slip(Refusal::Stranger));
+        };
+        cache.write_in(rt, own, &mut handle.handle, bytes)
+    }
+
+    #[tactic(auto, using(crate::proofs::ShardSeated::seated_on))]
+    pub(crate) fn truncate<R: Wait>(
+        &self,
+        rt: &R,
+        seat: &mut ShardSeat,
+        handle: &ShardHandle,
+        size: u64,
+    ) -> Result<Slip, Denied>
+        requires seat { AreSeated B.names seat.old }
+        ensures absent { B.shards ≤ K → (result ≡ Err (record { refusal = BadHandle; slip = None })) × (seat.new ≡ seat.old) }
+        ensures foreign { K < B.shards → is_of (B.names K).name seat.old K ≡ false → (result ≡ Err (record { refusal = Stranger; slip = None })) × (seat.new ≡ seat.old) }
+        ensures others { OnlyAt K seat.old seat.new }
+        ensures seated { AreSeated B.names seat.new }
+        ensures call { K < B.shards → is_of (B.names K).name seat.old K ≡ true → Cuts (B.names K) handle.now.handle size result (part seat.old K) (part seat.new K) }
+    {
+        let Some(cache) = self.caches.first() else {
+            return Err(without_slip(Refusal::BadHandle));
+        };
+        let Some(own) = seat.seats.get_mut(K as usize) else {
+            return Err(without_slip(Refusal::Stranger));
+        };
+        cache.truncate_in(rt, own, &handle.handle, size)
+    }
+
+    #[tactic(auto, using(crate::proofs::ShardSeated::seated_on))]
+    pub(crate) fn size<R: Wait>(
+        &self,
+        rt: &R,
+        seat: &mut ShardSeat,
+        handle: &ShardHandle,
+    ) -> Result<(u64, Slip), Denied>
+        requires seat { AreSeated B.names seat.old }
+        ensures absent { B.shards ≤ K → (result ≡ Err (record { refusal = BadHandle; slip = None })) × (seat.new ≡ seat.old) }
+        ensures foreign { K < B.shards → is_of (B.names K).name seat.old K ≡ false → (result ≡ Err (record { refusal = Stranger; slip = None })) × (seat.new ≡ seat.old) }
+        ensures others { OnlyAt K seat.old seat.new }
+        ensures seated { AreSeated B.names seat.new }
+        ensures call { K < B.shards → is_of (B.names K).name seat.old K ≡ true → Measures (B.names K) handle.now.handle result (part seat.old K) (part seat.new K) }
+    {
+        let Some(cache) = self.caches.first() else {
+            return Err(without_slip(Refusal::BadHandle));
+        };
+        let Some(own) = seat.seats.get_mut(K as usize) else {
+            return Err(without_slip(Refusal::Stranger));
+        };
+        cache.size_in(rt, own, &handle.handle)
+    }
+}
+
+impl<B: ShardNaming, D: BlockDevice, T: Trail> ShardedCache<B, D, T> {
+    /// Reads the bytes from `offset` on into the front of `out`, and answers how many: as many as it takes, and none past the end of
+    /// the file. A read touches 16 pages at most.
+    pub fn pread<R: Wait>(
+        &self,
+        rt: &R,
+        seat: &mut ShardSeat,
+        handle: &ShardHandle,
+        offset: u64,
+        out: &mut [u8],
+    ) -> Result<(u64, Slip), Denied>
+        requires seat { AreSeated B.names seat.old }
+        ensures absent { B.shards ≤ handle.now.shard → (result ≡ Err (record { refusal = BadHandle; slip = None })) × (seat.new ≡ seat.old) × (out.new ≡ out.old) }
+        ensures foreign { handle.now.shard < B.shards → is_of (B.names handle.now.shard).name seat.old handle.now.shard ≡ false → (result ≡ Err (record { refusal = Stranger; slip = None })) × (seat.new ≡ seat.old) × (out.new ≡ out.old) }
+        ensures others { OnlyAt handle.now.shard seat.old seat.new }
+        ensures seated { AreSeated B.names seat.new }
+        ensures call { handle.now.shard < B.shards → is_of (B.names handle.now.shard).name seat.old handle.now.shard ≡ true → Reads (B.names handle.now.shard) handle.now.handle offset out.old out.new result (part seat.old handle.now.shard) (part seat.new handle.now.shard) }
+    {
+        at_shard!(
+            self,
+            handle.shard,
+            pread(rt, seat, handle, offset, out),
+            Err(without_slip(Refusal::BadHandle))
+        )
+    }
+
+    /// Reads at the cursor, as `pread` does there, and moves the cursor by the count.
+    pub fn read<R: Wait>(
+        &self,
+        rt: &R,
+        seat: &mut ShardSeat,
+        handle: &mut ShardHandle,
+        out: &mut [u8],
+    ) -> Result<(u64, Slip), Denied>
+        requires seat { AreSeated B.names seat.old }
+        ensures absent { B.shards ≤ handle.old.shard → (result ≡ Err (record { refusal = BadHandle; slip = None })) × (seat.new ≡ seat.old) × (out.new ≡ out.old) × (handle.new ≡ handle.old) }
+        ensures foreign { handle.old.shard < B.shards → is_of (B.names handle.old.shard).name seat.old handle.old.shard ≡ false → (result ≡ Err (record { refusal = Stranger; slip = None })) × (seat.new ≡ seat.old) × (out.new ≡ out.old) × (handle.new ≡ handle.old) }
+        ensures others { OnlyAt handle.old.shard seat.old seat.new }
+        ensures seated { AreSeated B.names seat.new }
+        ensures same { (handle.new.shard ≡ handle.old.shard) × (handle.new.handle ≡ record handle.old.handle { cursor = handle.new.handle.cursor }) }
+        ensures call { handle.old.shard < B.shards → is_of (B.names handle.old.shard).name seat.old handle.old.shard ≡ true → ReadsOn (B.names handle.old.shard) handle.old.handle handle.new.handle out.old out.new result (part seat.old handle.old.shard) (part seat.new handle.old.shard) }
+    {
+        at_shard!(
+            self,
+            handle.shard,
+            read(rt, seat, handle, out),
+            Err(without_slip(Refusal::BadHandle))
+        )
+    }
+
+    /// Puts the cursor, and answers where it is now. Refused by `TooLarge` below 0 and past the greatest size of a file. Only a place
+    /// that is counted from the end of the file makes an event, which asks for the file's size.
+    pub fn seek<R: Wait>(
+        &self,
+        rt: &R,
+        seat: &mut ShardSeat,
+        handle: &mut ShardHandle,
+        place: Seek,
+    ) -> Result<(u64, Option<Slip>), Denied>
+        requires seat { AreSeated B.names seat.old }
+        ensures absent { B.shards ≤ handle.old.shard → (result ≡ Err (record { refusal = BadHandle; slip = None })) × (seat.new ≡ seat.old) × (handle.new ≡ handle.old) }
+        ensures foreign { handle.old.shard < B.shards → is_of (B.names handle.old.shard).name seat.old handle.old.shard ≡ false → (result ≡ Err (record { refusal = Stranger; slip = None })) × (seat.new ≡ seat.old) × (handle.new ≡ handle.old) }
+        ensures others { OnlyAt handle.old.shard seat.old seat.new }
+        ensures seated { AreSeated B.names seat.new }
+        ensures same { (handle.new.shard ≡ handle.old.shard) × (handle.new.handle ≡ record handle.old.handle { cursor = handle.new.handle.cursor }) }
+        ensures call { handle.old.shard < B.shards → is_of (B.names handle.old.shard).name seat.old handle.old.shard ≡ true → Moves (B.names handle.old.shard) place handle.old.handle handle.new.handle result (part seat.old handle.old.shard) (part seat.new handle.old.shard) }
+    {
+        at_shard!(
+            self,
+            handle.shard,
+            seek(rt, seat, handle, place),
+            Err(without_slip(Refusal::BadHandle))
+        )
+    }
+
+    /// Writes the bytes into the file from `offset` on, all of them, also by an appending handle. A gap before them reads as zeros. A
+    /// write touches 16 pages at most.
+    pub fn pwrite<R: Wait>(
+        &self,
+        rt: &R,
+        seat: &mut ShardSeat,
+        handle: &ShardHandle,
+        offset: u64,
+        bytes: &[u8],
+    ) -> Result<(Wrote, Slip), Denied>
+        requires seat { AreSeated B.names seat.old }
+        ensures absent { B.shards ≤ handle.now.shard → (result ≡ Err (record { refusal = BadHandle; slip = None })) × (seat.new ≡ seat.old) }
+        ensures foreign { handle.now.shard < B.shards → is_of (B.names handle.now.shard).name seat.old handle.now.shard ≡ false → (result ≡ Err (record { refusal = Stranger; slip = None })) × (seat.new ≡ seat.old) }
+        ensures others { OnlyAt handle.now.shard seat.old seat.new }
+        ensures seated { AreSeated B.names seat.new }
+        ensures call { handle.now.shard < B.shards → is_of (B.names handle.now.shard).name seat.old handle.now.shard ≡ true → Writes (B.names handle.now.shard) handle.now.handle offset bytes.now result (part seat.old handle.now.shard) (part seat.new handle.now.shard) }
+    {
+        at_shard!(
+            self,
+            handle.shard,
+            pwrite(rt, seat, handle, offset, bytes),
+            Err(without_slip(Refusal::BadHandle))
+        )
+    }
+
+    /// Writes at the cursor, or with an appending handle at the end of the file, all of the bytes, and puts the cursor behind them.
+    pub fn write<R: Wait>(
+        &self,
+        rt: &R,
+        seat: &mut ShardSeat,
+        handle: &mut ShardHandle,
+        bytes: &[u8],
+    ) -> Result<(Wrote, Slip), Denied>
+        requires seat { AreSeated B.names seat.old }
+        ensures absent { B.shards ≤ handle.old.shard → (result ≡ Err (record { refusal = BadHandle; slip = None })) × (seat.new ≡ seat.old) × (handle.new ≡ handle.old) }
+        ensures foreign { handle.old.shard < B.shards → is_of (B.names handle.old.shard).name seat.old handle.old.shard ≡ false → (result ≡ Err (record { refusal = Stranger; slip = None })) × (seat.new ≡ seat.old) × (handle.new ≡ handle.old) }
+        ensures others { OnlyAt handle.old.shard seat.old seat.new }
+        ensures seated { AreSeated B.names seat.new }
+        ensures same { (handle.new.shard ≡ handle.old.shard) × (handle.new.handle ≡ record handle.old.handle { cursor = handle.new.handle.cursor }) }
+        ensures call { handle.old.shard < B.shards → is_of (B.names handle.old.shard).name seat.old handle.old.shard ≡ true → WritesOn (B.names handle.old.shard) handle.old.handle handle.new.handle bytes.now result (part seat.old handle.old.shard) (part seat.new handle.old.shard) }
+    {
+        at_shard!(
+            self,
+            handle.shard,
+            write(rt, seat, handle, bytes),
+            Err(without_slip(Refusal::BadHandle))
+        )
+    }
+
+    /// Makes the file as long as this, in bytes. A longer one gains zeros. The cursor stays.
+    pub fn truncate<R: Wait>(
+        &self,
+        rt: &R,
+        seat: &mut ShardSeat,
+        handle: &ShardHandle,
+        size: u64,
+    ) -> Result<Slip, Denied>
+        requires seat { AreSeated B.names seat.old }
+        ensures absent { B.shards ≤ handle.now.shard → (result ≡ Err (record { refusal = BadHandle; slip = None })) × (seat.new ≡ seat.old) }
+        ensures foreign { handle.now.shard < B.shards → is_of (B.names handle.now.shard).name seat.old handle.now.shard ≡ false → (result ≡ Err (record { refusal = Stranger; slip = None })) × (seat.new ≡ seat.old) }
+        ensures others { OnlyAt handle.now.shard seat.old seat.new }
+        ensures seated { AreSeated B.names seat.new }
+        ensures call { handle.now.shard < B.shards → is_of (B.names handle.now.shard).name seat.old handle.now.shard ≡ true → Cuts (B.names handle.now.shard) handle.now.handle size result (part seat.old handle.now.shard) (part seat.new handle.now.shard) }
+    {
+        at_shard!(
+            self,
+            handle.shard,
+            truncate(rt, seat, handle, size),
+            Err(without_slip(Refusal::BadHandle))
+        )
+    }
+
+    /// The size of the handle's file, in bytes.
+    pub fn size<R: Wait>(
+        &self,
+        rt: &R,
+        seat: &mut ShardSeat,
+        handle: &ShardHandle,
+    ) -> Result<(u64, Slip), Denied>
+        requires seat { AreSeated B.names seat.old }
+        ensures absent { B.shards ≤ handle.now.shard → (result ≡ Err (record { refusal = BadHandle; slip = None })) × (seat.new ≡ seat.old) }
+        ensures foreign { handle.now.shard < B.shards → is_of (B.names handle.now.shard).name seat.old handle.now.shard ≡ false → (result ≡ Err (record { refusal = Stranger; slip = None })) × (seat.new ≡ seat.old) }
+        ensures others { OnlyAt handle.now.shard seat.old seat.new }
+        ensures seated { AreSeated B.names seat.new }
+        ensures call { handle.now.shard < B.shards → is_of (B.names handle.now.shard).name seat.old handle.now.shard ≡ true → Measures (B.names handle.now.shard) handle.now.handle result (part seat.old handle.now.shard) (part seat.new handle.now.shard) }
+    {
+        at_shard!(
+            self,
+            handle.shard,
+            size(rt, seat, handle),
+            Err(without_slip(Refusal::BadHandle))
+        )
+    }
+}
