@@ -17,3 +17,5 @@ pub mod ShardResults
 pub mod ShardSeats
 pub mod ShardParts
 pub mod ShardWorkers
+pub mod ShardWorks
+pub mod ShardEnds

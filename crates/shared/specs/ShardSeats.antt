@@ -1,6 +1,10 @@
 -- A caller's seats, one at each shard.
-use Rattle.std.specs.Prelude.{◌≡◌, ◌<◌, ◌&&◌, ◌==◌, ℕ, Bool, List, [], length, nat_lt, slice_index_or, slice_set}
+use Rattle.std.specs.Prelude.{◌≤◌, IfErr, OnOk, Result, ◌≡◌, ◌<◌, ◌&&◌, ◌==◌, ℕ, Bool, List, [], length, nat_lt, slice_index_or, slice_set}
+use mathlib.Core.List.{IsPrefix}
 use Rattle.held.specs.Names.{no_table}
+use Rattle.held.specs.declared.log.Slip.{Slip}
+use Rattle.pc_types.specs.declared.refusal.Refusal.{Refusal}
+use Rattle.pc_types.specs.declared.refusal.Refusal.TheVariants.{Stranger}
 use Rattle.held.specs.Shown.{SeatSeen}
 use Rattle.shared.specs.ShardNames.{CacheNames, names_at}
 
@@ -32,3 +36,14 @@ IsOfCache n s = (s.name ≡ n.name) × (s.table ≡ n.table) × (s.list ≡ []) 
 pub record AreOf (names : List CacheNames) (seats : List SeatSeen) : Type 0 where
   pub count : length seats ≡ length names
   pub each : (k : ℕ) → k < length names → IsOfCache (names_at names k) (part seats k)
+
+-- a seat at each of so many shards, of the shard's cache
+abbrev pub IsSeated : ℕ → (ℕ → CacheNames) → List SeatSeen → Type 0
+IsSeated shards names seats = (length seats ≡ shards) × ((k : ℕ) → k < shards → (part seats k).name ≡ (names k).name)
+
+-- the seat was shown the slip's entry, or there is no such entry; it entered nothing
+pub record Sees (slip : Slip) (before after : SeatSeen) (result : Result Unit Refusal) : Type 0 where
+  pub same : (after.table ≡ before.table) × (after.name ≡ before.name) × (after.number ≡ before.number) × (after.count ≡ before.count)
+  pub grows : IsPrefix before.list after.list
+  pub ok : OnOk result (slip.place < length after.list)
+  pub err : IfErr result (λ e. (e ≡ Stranger) × (length after.list ≤ slip.place))

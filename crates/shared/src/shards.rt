@@ -6,8 +6,10 @@
 
 mod bytes;
 pub mod cache;
+pub mod close;
 mod config;
 pub mod denied;
+mod errors;
 mod files;
 pub mod handle;
 pub mod naming;
@@ -15,6 +17,7 @@ pub mod parts;
 mod place;
 mod rows;
 pub mod seat;
+mod standing;
 pub mod sync;
 mod work;
 pub mod worker;

@@ -1,16 +1,20 @@
 //! A cache of shards.
 
+ghost use Rattle.std.specs.Bool.{OnFalse, OnTrue};
 ghost use Rattle.std.specs.Prelude.{◌≡◌, ◌<◌, ◌≤◌, ◌+◌, [], ℕ, IfErr, IfOk, length, vec_capacity, vec_len};
 ghost use Rattle.shared.specs.ShardNames.{names_at};
+ghost use Rattle.shared.specs.ShardSeats.{IsSeated};
 ghost use Rattle.shared.specs.ShardWorkers.{AreWorkers};
 
 use crate::cache::SharedCache;
 use crate::shards::naming::{Shard, ShardNaming};
 use crate::shards::parts::ShardParts;
-use crate::shards::place::{Place, room};
+use crate::shards::place::{Place, at_shard, room};
+use crate::shards::seat::ShardSeat;
 use crate::shards::worker::ShardWorker;
 use crate::worker::Worker;
 use blockdev::BlockDevice;
+use held::log::Seat;
 use held::naming::Naming;
 use std::alloc::{AllocError, Global};
 use trail::Trail;
@@ -65,7 +69,7 @@ where
     ghost seated: { (k : ℕ) → k < shards → (B.names k).seats ≡ callers + 1 },
 }
 
-impl<B: ShardNaming, D: BlockDevice, T: Trail> ShardedCache<B, D, T> {
+impl<B: ShardNaming, D: BlockDevice, T: Trail + Drop> ShardedCache<B, D, T> {
     /// The cache of these parts, and its own workers, one at each shard, which make the others and close the cache. Threads share the cache,
     /// and one keeps the workers. The parts were made before, so that a caller could pick B; they come back where memory is wanting.
     pub fn of(
@@ -122,14 +126,36 @@ impl<B: ShardNaming, D: BlockDevice, T: Trail> ShardedCache<B, D, T> {
             place_14,
             place_15,
         };
-        Ok((cache, ShardWorker { workers }))
+        let own = ShardWorker {
+            workers,
+            desk: rooms.desk,
+        };
+        Ok((cache, own))
     }
+}
 
+impl<B: ShardNaming, D: BlockDevice, T: Trail> ShardedCache<B, D, T> {
     /// How many shards it has.
     pub fn shards(&self) -> u64
         ensures { result ≡ B.shards }
     {
         self.shards
+    }
+
+    /// Whether the caller has a seat at each shard.
+    pub(crate) fn seats(&self, seat: &ShardSeat) -> bool
+        ensures yes { OnTrue result (IsSeated B.shards B.names seat.now) }
+        ensures no { OnFalse result (IsSeated B.shards B.names seat.now → ⊥) }
+    {
+        seat.seats.len() as u64 == self.shards
+            && (0..self.shards).all(|shard| seat.is_of(self.name_of(shard), shard))
+    }
+
+    /// The name of a shard's cache, or 0 where there is no such shard.
+    pub fn name_of(&self, shard: u64) -> u64
+        ensures { shard < B.shards → result ≡ (B.names shard).name }
+    {
+        at_shard!(self, shard, name(), 0)
     }
 }
 
@@ -155,6 +181,7 @@ where
     Shard<B, 15>: Naming,
 {
     workers: Vec<Worker>,
+    desk: Vec<Seat>,
     room_0: Vec<SharedCache<Shard<B, 0>, D, T>>,
     room_1: Vec<SharedCache<Shard<B, 1>, D, T>>,
     room_2: Vec<SharedCache<Shard<B, 2>, D, T>>,
@@ -173,9 +200,10 @@ where
     room_15: Vec<SharedCache<Shard<B, 15>, D, T>>,
 }
 
-impl<B: ShardNaming, D: BlockDevice, T: Trail> Rooms<B, D, T> {
+impl<B: ShardNaming, D: BlockDevice, T: Trail + Drop> Rooms<B, D, T> {
     fn new(alloc: Global, shards: u64) -> Result<Rooms<B, D, T>, AllocError>
         ensures workers { IfOk result (λ r. (r.workers.items ≡ []) × (shards ≤ vec_capacity r.workers)) }
+        ensures desk { IfOk result (λ r. (r.desk.items ≡ []) × (shards ≤ vec_capacity r.desk)) }
         ensures room_0 { IfOk result (λ r. (r.room_0.items ≡ []) × (0 < shards → 0 < vec_capacity r.room_0)) }
         ensures room_1 { IfOk result (λ r. (r.room_1.items ≡ []) × (1 < shards → 0 < vec_capacity r.room_1)) }
         ensures room_2 { IfOk result (λ r. (r.room_2.items ≡ []) × (2 < shards → 0 < vec_capacity r.room_2)) }
@@ -195,6 +223,7 @@ impl<B: ShardNaming, D: BlockDevice, T: Trail> Rooms<B, D, T> {
     {
         Ok(Rooms {
             workers: Vec::with_capacity(alloc, shards as usize)?,
+            desk: Vec::with_capacity(alloc, shards as usize)?,
             room_0: room(alloc, shards)?,
             room_1: room(alloc, shards)?,
             room_2: room(alloc, shards)?,

@@ -13,6 +13,7 @@ ghost use Rattle.shared.specs.ShardSeats.{AreSeated, OnlyAt, is_of, part};
 ghost use Rattle.shared.specs.declared.shards.denied.CreateDenied.TheVariants.{ByShard, NoShard};
 
 use crate::cache::SharedCache;
+use crate::handle::Handle;
 use crate::shards::cache::ShardedCache;
 use crate::shards::denied::CreateDenied;
 use crate::shards::handle::ShardHandle;
@@ -23,7 +24,6 @@ use blockdev::BlockDevice;
 use held::denied::{Denied, without_slip};
 use held::log::{Seat, Slip};
 use pc_types::{FileId, Refusal};
-use crate::handle::Handle;
 use std::sync::Wait;
 use trail::Trail;
 

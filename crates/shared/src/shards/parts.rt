@@ -90,7 +90,9 @@ impl<D: BlockDevice, T: Trail> OneParts<D, T> {
     {
         self.parts
     }
+}
 
+impl<D: BlockDevice, T: Trail + Drop> OneParts<D, T> {
     /// The name and the device, where no cache is made of them. The trail, which has no entry, goes.
     pub fn into_device(self) -> (u64, D)
         ensures { result.0 ≡ self.name }
@@ -98,9 +100,7 @@ impl<D: BlockDevice, T: Trail> OneParts<D, T> {
         let Parts { name, device, .. } = self.parts;
         (name, device)
     }
-}
 
-impl<D: BlockDevice, T: Trail + Drop> OneParts<D, T> {
     /// Makes the parts of a cache, with so many seats.
     fn make<R: Wait>(
         rt: &R,

@@ -27,7 +27,7 @@ where
 }
 
 /// Room for the cache of shard K, where there are so many shards.
-pub(crate) fn room<B: ShardNaming, D: BlockDevice, T: Trail, const K: u64>(
+pub(crate) fn room<B: ShardNaming, D: BlockDevice, T: Trail + Drop, const K: u64>(
     alloc: Global,
     shards: u64,
 ) -> Result<Vec<SharedCache<Shard<B, K>, D, T>>, AllocError>
@@ -41,7 +41,7 @@ pub(crate) fn room<B: ShardNaming, D: BlockDevice, T: Trail, const K: u64>(
     }
 }
 
-impl<B: ShardNaming, D: BlockDevice, T: Trail, const K: u64> Place<B, D, T, K> {
+impl<B: ShardNaming, D: BlockDevice, T: Trail + Drop, const K: u64> Place<B, D, T, K> {
     /// The place of shard K, whose parts are the last where there are so many shards. The cache's own worker goes before the others.
     pub(crate) fn of(
         alloc: Global,
@@ -74,6 +74,18 @@ impl<B: ShardNaming, D: BlockDevice, T: Trail, const K: u64> Place<B, D, T, K> {
             unreachable!()
         };
         Place { caches: room }
+    }
+}
+
+impl<B: ShardNaming, D: BlockDevice, T: Trail, const K: u64> Place<B, D, T, K> {
+    /// The name of its cache, or 0 where there is none.
+    pub(crate) fn name(&self) -> u64
+        ensures { K < B.shards → result ≡ (B.names K).name }
+    {
+        match self.caches.first() {
+            Some(cache) => cache.name(),
+            None => 0,
+        }
     }
 }
 

@@ -1,16 +1,15 @@
 //! A caller's seat at a cache of shards.
 
-ghost use Rattle.std.specs.Bool.{OnFalse, OnTrue};
-ghost use Rattle.std.specs.Prelude.{◌≡◌, ◌≢◌, ◌⊎◌, ◌<◌, ◌≤◌, ℕ, Any, All, IfErr, OnOk, false, length, true};
-ghost use Rattle.held.specs.Called.{Goes};
+ghost use Rattle.std.specs.Prelude.{◌≡◌, ◌≢◌, ◌<◌, ℕ, All, Err};
+ghost use Rattle.held.specs.Shown.{SeatSeen};
 ghost use Rattle.pc_types.specs.declared.refusal.Refusal.TheVariants.{Stranger};
-ghost use Rattle.shared.specs.ShardSeats.{OnlyAt, is_of, part};
+ghost use Rattle.shared.specs.ShardSeats.{OnlyAt, Sees, is_of, part};
 
 use held::log::{Seat, Slip};
 use pc_types::Refusal;
 use std::marker::Model;
 
-/// A caller's seats, one at each shard.
+/// A caller's seats, one at each shard. It counts its events and knows a history a shard: no order between shards is claimed.
 #[derive(Drop)]
 pub struct ShardSeat {
     pub(crate) seats: Vec<Seat>,
@@ -35,20 +34,16 @@ impl ShardSeat {
             None => false,
         }
     }
-}
 
-/// Whether each caller has so many seats.
-pub(crate) fn are_long(seats: &Vec<ShardSeat>, shards: u64) -> bool
-    ensures yes { OnTrue result (All (λ s. length s ≡ shards) seats.now.items) }
-    ensures no { OnFalse result (Any (λ s. length s ≢ shards) seats.now.items) }
-{
-    seats.iter().all(|seat| seat.seats.len() as u64 == shards)
-}
-
-/// Whether each caller has a seat at this shard, of the cache of this name.
-pub(crate) fn are_of(seats: &Vec<ShardSeat>, name: u64, shard: u64) -> bool
-    ensures yes { OnTrue result (All (λ s. is_of name s shard ≡ true) seats.now.items) }
-    ensures no { OnFalse result (Any (λ s. is_of name s shard ≡ false) seats.now.items) }
-{
-    seats.iter().all(|seat| seat.is_of(name, shard))
+    /// Sees the entry of a slip that another caller has, at the shard of whose cache the slip is: what this caller does there after comes
+    /// after that entry. `Stranger` where it is of no shard, or of a history that the seat cannot reach.
+    pub fn see(&mut self, slip: &Slip) -> Result<(), Refusal>
+        ensures none { All (λ s. s.name ≢ slip.now.name) self.old → (result ≡ Err Stranger) × (self.new ≡ self.old) }
+        ensures one { (k : ℕ) → k < length self.old → (part self.old k).name ≡ slip.now.name → ((j : ℕ) → j < k → (part self.old j).name ≢ slip.now.name) → OnlyAt k self.old self.new × Sees slip.now (part self.old k) (part self.new k) result }
+    {
+        match self.seats.iter().position(|seat| seat.name() == slip.name) {
+            Some(shard) => self.seats[shard].see(slip),
+            None => Err(Refusal::Stranger),
+        }
+    }
 }

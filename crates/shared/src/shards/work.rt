@@ -1,162 +1,281 @@
-//! Workers, a shard each.
+//! Workers' turns and loops, in a shard.
 
-ghost use Rattle.std.specs.Prelude.{◌≡◌, ◌≢◌, ◌↔◌, ◌<◌, ◌≤◌, [], Err, IfErr, IfOk, IsErr};
-ghost use Rattle.crossbeam_queue.specs.Fifo as fifo;
-ghost use Rattle.crossbeam_queue.specs.Passes.{view};
-ghost use Rattle.held.specs.Called.{Goes, Only};
-ghost use Rattle.pc_types.specs.declared.refusal.Refusal.TheVariants.{Stranger};
-ghost use Rattle.ring.specs.Order.{Stands};
-ghost use Rattle.shared.specs.Own.{IsEviction};
-ghost use Rattle.shared.specs.Settled.{EndsOwn};
-ghost use Rattle.shared.specs.Workers.{AllCarried, AllEnded, IsEnd, IsWriteBack, is_alone, popped_by, pushed_by, seat_of};
-ghost use Rattle.shared.specs.ShardSeats.{IsWorkerAt};
+ghost use Rattle.std.specs.Prelude.{◌≡◌, ◌<◌, Some, length};
+ghost use Rattle.shared.specs.ShardWorkers.{AreWorkers, IsWorkerAt, WorksAt};
+ghost use Rattle.shared.specs.ShardWorks.{EndsAll, EndsOne, LetsPages, LetsSome, WritesBack, WritesOne};
 
+use crate::cache::SharedCache;
+use crate::ends::Done;
 use crate::shards::cache::ShardedCache;
-use crate::shards::naming::ShardNaming;
-use crate::shards::place::{Place, Served, at_shard};
-use blockdev::{BlockDevice, Gate};
-use held::log::Seat;
-use pc_types::Refusal;
+use crate::shards::naming::{Shard, ShardNaming};
+use crate::shards::place::{Place, at_shard};
+use crate::shards::worker::ShardWorker;
+use crate::turns::Flushed;
 use crate::worker::Worker;
+use blockdev::{BlockDevice, Gate};
+use held::denied::Denied;
 use std::sync::Wait;
 use trail::Trail;
 
+impl<B: ShardNaming, D: BlockDevice, T: Trail, const K: u64> SharedCache<Shard<B, K>, D, T> {
+    fn io_turn_in<R: Wait, G: Gate>(&self, rt: &R, gate: &G, worker: &mut Worker) -> Option<Done>
+        requires ring { (B.names K).ring ≡ Some self.now.ring }
+        requires worker { IsWorkerAt (B.names K) worker.old }
+        ensures turn { EndsOne (B.names K) (G.passed gate.now) result worker.old worker.new }
+    {
+        self.io_turn(rt, gate, worker)
+    }
+
+    fn flusher_turn_in<R: Wait, G: Gate>(
+        &self,
+        rt: &R,
+        gate: &G,
+        worker: &mut Worker,
+    ) -> Result<Flushed, Denied>
+        requires ring { (B.names K).ring ≡ Some self.now.ring }
+        requires worker { IsWorkerAt (B.names K) worker.old }
+        ensures turn { WritesOne (B.names K) result worker.old worker.new }
+    {
+        self.flusher_turn(rt, gate, worker)
+    }
+
+    fn evictor_turn_in<R: Wait, G: Gate>(
+        &self,
+        rt: &R,
+        gate: &G,
+        worker: &mut Worker,
+    ) -> Result<u64, Denied>
+        requires ring { (B.names K).ring ≡ Some self.now.ring }
+        requires worker { IsWorkerAt (B.names K) worker.old }
+        ensures turn { LetsSome (B.names K) result worker.old worker.new }
+    {
+        self.evictor_turn(rt, gate, worker)
+    }
+
+    fn io_worker_in<R: Wait, G: Gate>(&self, rt: &R, gate: &G, worker: &mut Worker)
+        requires ring { (B.names K).ring ≡ Some self.now.ring }
+        requires worker { IsWorkerAt (B.names K) worker.old }
+        ensures turn { EndsAll (B.names K) worker.old worker.new }
+    {
+        self.io_worker(rt, gate, worker)
+    }
+
+    fn flusher_in<R: Wait, G: Gate>(&self, rt: &R, gate: &G, worker: &mut Worker)
+        requires ring { (B.names K).ring ≡ Some self.now.ring }
+        requires worker { IsWorkerAt (B.names K) worker.old }
+        ensures turn { WritesBack (B.names K) worker.old worker.new }
+    {
+        self.flusher(rt, gate, worker)
+    }
+
+    fn evictor_in<R: Wait, G: Gate>(&self, rt: &R, gate: &G, worker: &mut Worker)
+        requires ring { (B.names K).ring ≡ Some self.now.ring }
+        requires worker { IsWorkerAt (B.names K) worker.old }
+        ensures turn { LetsPages (B.names K) worker.old worker.new }
+    {
+        self.evictor(rt, gate, worker)
+    }
+}
+
 impl<B: ShardNaming, D: BlockDevice, T: Trail, const K: u64> Place<B, D, T, K> {
-    /// A worker of this shard, whose events are entered by this seat.
-    pub(crate) fn worker_of(&mut self, seat: Seat) -> Result<Worker, (Refusal, Seat)>
-        requires seat { seat.name ≡ (B.names K).name → seat.table ≡ (B.names K).table }
-        ensures absent { B.shards ≤ K → result ≡ Err (Stranger, seat) }
-        ensures foreign { K < B.shards → (IsErr result ↔ (seat.name ≢ (B.names K).name)) }
-        ensures err { IfErr result (λ e. (e.0 ≡ Stranger) × (e.1 ≡ seat)) }
-        ensures worker { IfOk result (IsWorkerAt (B.names K)) }
-        ensures seat { IfOk result (λ w. seat_of w ≡ seat) }
-        ensures new { IfOk result (λ w. (popped_by w ≡ []) × (pushed_by w ≡ [])) }
+    pub(crate) fn io_turn<R: Wait, G: Gate>(
+        &self,
+        rt: &R,
+        gate: &G,
+        worker: &mut ShardWorker,
+    ) -> Option<Done>
+        requires there { (K < B.shards) × (length worker.old ≡ B.shards) }
+        requires workers { AreWorkers B.names worker.old }
+        ensures turn { WorksAt K (EndsOne (B.names K) (G.passed gate.now) result) worker.old worker.new }
+        ensures workers { AreWorkers B.names worker.new }
     {
-        match &mut self.served {
-            Some(served) => served.worker_of(seat),
-            None => Err((Refusal::Stranger, seat)),
-        }
+        let (Some(cache), Some(own)) = (self.caches.first(), worker.workers.get_mut(K as usize))
+        else {
+            unreachable!()
+        };
+        cache.io_turn_in(rt, gate, own)
     }
 
-    /// Writes pages of this shard back while there are any to write, and sleeps where there are none, until it is told to stop.
-    pub(crate) fn flusher<R: Wait, G: Gate>(&self, rt: &R, gate: &G, worker: &mut Worker)
-        requires worker { IsWorkerAt (B.names K) worker.old }
-        requires there { K < B.shards }
-        ensures worker { IsWorkerAt (B.names K) worker.new }
-        ensures goes { Goes (seat_of worker.old) (seat_of worker.new) }
-        ensures only { Only (λ e. IsWriteBack e.event) (seat_of worker.old) (seat_of worker.new) }
-        ensures own { EndsOwn (B.names K).name (seat_of worker.old) (seat_of worker.new) }
-        ensures popped { popped_by worker.new ≡ popped_by worker.old }
-        ensures alone { is_alone worker.new ≡ is_alone worker.old }
-        ensures carried { AllCarried worker.old worker.new }
+    pub(crate) fn flusher_turn<R: Wait, G: Gate>(
+        &self,
+        rt: &R,
+        gate: &G,
+        worker: &mut ShardWorker,
+    ) -> Result<Flushed, Denied>
+        requires there { (K < B.shards) × (length worker.old ≡ B.shards) }
+        requires workers { AreWorkers B.names worker.old }
+        ensures turn { WorksAt K (WritesOne (B.names K) result) worker.old worker.new }
+        ensures workers { AreWorkers B.names worker.new }
     {
-        match &self.served {
-            Some(served) => served.cache.flusher(rt, gate, worker),
-            None => unreachable!(),
-        }
+        let (Some(cache), Some(own)) = (self.caches.first(), worker.workers.get_mut(K as usize))
+        else {
+            unreachable!()
+        };
+        cache.flusher_turn_in(rt, gate, own)
     }
 
-    /// Carries out the jobs of this shard's ring, and sleeps where there are none, until it is told to stop.
-    pub(crate) fn io_worker<R: Wait, G: Gate>(&self, rt: &R, gate: &G, worker: &mut Worker)
-        requires worker { IsWorkerAt (B.names K) worker.old }
-        requires there { K < B.shards }
-        ensures worker { IsWorkerAt (B.names K) worker.new }
-        ensures goes { Goes (seat_of worker.old) (seat_of worker.new) }
-        ensures only { Only (λ e. IsEnd e.event) (seat_of worker.old) (seat_of worker.new) }
-        ensures pushed { pushed_by worker.new ≡ pushed_by worker.old }
-        ensures alone { is_alone worker.new ≡ is_alone worker.old }
-        ensures ended { AllEnded worker.old worker.new }
-        ensures emptied { fifo.Held 0 (Stands (view worker.new.pass)) }
+    pub(crate) fn evictor_turn<R: Wait, G: Gate>(
+        &self,
+        rt: &R,
+        gate: &G,
+        worker: &mut ShardWorker,
+    ) -> Result<u64, Denied>
+        requires there { (K < B.shards) × (length worker.old ≡ B.shards) }
+        requires workers { AreWorkers B.names worker.old }
+        ensures turn { WorksAt K (LetsSome (B.names K) result) worker.old worker.new }
+        ensures workers { AreWorkers B.names worker.new }
     {
-        match &self.served {
-            Some(served) => served.cache.io_worker(rt, gate, worker),
-            None => unreachable!(),
-        }
+        let (Some(cache), Some(own)) = (self.caches.first(), worker.workers.get_mut(K as usize))
+        else {
+            unreachable!()
+        };
+        cache.evictor_turn_in(rt, gate, own)
     }
 
-    /// Lets pages of this shard go while few frames are free, and sleeps where enough are, until it is told to stop.
-    pub(crate) fn evictor<R: Wait, G: Gate>(&self, rt: &R, gate: &G, worker: &mut Worker)
-        requires worker { IsWorkerAt (B.names K) worker.old }
-        requires there { K < B.shards }
-        ensures worker { IsWorkerAt (B.names K) worker.new }
-        ensures goes { Goes (seat_of worker.old) (seat_of worker.new) }
-        ensures only { Only (λ e. IsEviction e.event) (seat_of worker.old) (seat_of worker.new) }
-        ensures ring { (popped_by worker.new ≡ popped_by worker.old) × (pushed_by worker.new ≡ pushed_by worker.old) }
-        ensures alone { is_alone worker.new ≡ is_alone worker.old }
+    pub(crate) fn io_worker<R: Wait, G: Gate>(&self, rt: &R, gate: &G, worker: &mut ShardWorker)
+        requires there { (K < B.shards) × (length worker.old ≡ B.shards) }
+        requires workers { AreWorkers B.names worker.old }
+        ensures turn { WorksAt K (EndsAll (B.names K)) worker.old worker.new }
+        ensures workers { AreWorkers B.names worker.new }
     {
-        match &self.served {
-            Some(served) => served.cache.evictor(rt, gate, worker),
-            None => unreachable!(),
-        }
+        let (Some(cache), Some(own)) = (self.caches.first(), worker.workers.get_mut(K as usize))
+        else {
+            unreachable!()
+        };
+        cache.io_worker_in(rt, gate, own)
+    }
+
+    pub(crate) fn flusher<R: Wait, G: Gate>(&self, rt: &R, gate: &G, worker: &mut ShardWorker)
+        requires there { (K < B.shards) × (length worker.old ≡ B.shards) }
+        requires workers { AreWorkers B.names worker.old }
+        ensures turn { WorksAt K (WritesBack (B.names K)) worker.old worker.new }
+        ensures workers { AreWorkers B.names worker.new }
+    {
+        let (Some(cache), Some(own)) = (self.caches.first(), worker.workers.get_mut(K as usize))
+        else {
+            unreachable!()
+        };
+        cache.flusher_in(rt, gate, own)
+    }
+
+    pub(crate) fn evictor<R: Wait, G: Gate>(&self, rt: &R, gate: &G, worker: &mut ShardWorker)
+        requires there { (K < B.shards) × (length worker.old ≡ B.shards) }
+        requires workers { AreWorkers B.names worker.old }
+        ensures turn { WorksAt K (LetsPages (B.names K)) worker.old worker.new }
+        ensures workers { AreWorkers B.names worker.new }
+    {
+        let (Some(cache), Some(own)) = (self.caches.first(), worker.workers.get_mut(K as usize))
+        else {
+            unreachable!()
+        };
+        cache.evictor_in(rt, gate, own)
     }
 
     /// Tells this shard's workers to stop.
-    pub(crate) fn stop<R: Wait>(&self, rt: &R) {
-        if let Some(served) = &self.served {
-            served.cache.stop(rt);
+    fn stop<R: Wait>(&self, rt: &R) {
+        if let Some(cache) = self.caches.first() {
+            cache.stop(rt);
         }
     }
 }
 
 impl<B: ShardNaming, D: BlockDevice, T: Trail> ShardedCache<B, D, T> {
-    /// A worker of a shard, whose events are entered by this seat.
-    pub fn worker_of(&mut self, shard: u64, seat: Seat) -> Result<Worker, (Refusal, Seat)>
-        requires seat { seat.name ≡ (B.names shard).name → seat.table ≡ (B.names shard).table }
-        ensures absent { B.shards ≤ shard → result ≡ Err (Stranger, seat) }
-        ensures foreign { shard < B.shards → (IsErr result ↔ (seat.name ≢ (B.names shard).name)) }
-        ensures err { IfErr result (λ e. (e.0 ≡ Stranger) × (e.1 ≡ seat)) }
-        ensures worker { IfOk result (IsWorkerAt (B.names shard)) }
-        ensures seat { IfOk result (λ w. seat_of w ≡ seat) }
-        ensures new { IfOk result (λ w. (popped_by w ≡ []) × (pushed_by w ≡ [])) }
+    /// One turn of an I/O worker of a shard: it takes a job from the shard's ring, makes its device call, and ends its request. Answers
+    /// nothing only where the ring was empty at one moment of the turn. The gate is entered with the job's serial, before the device call.
+    pub fn io_turn<R: Wait, G: Gate>(
+        &self,
+        rt: &R,
+        gate: &G,
+        shard: u64,
+        worker: &mut ShardWorker,
+    ) -> Option<Done>
+        requires there { (shard < B.shards) × (length worker.old ≡ B.shards) }
+        requires workers { AreWorkers B.names worker.old }
+        ensures turn { WorksAt shard (EndsOne (B.names shard) (G.passed gate.now) result) worker.old worker.new }
+        ensures workers { AreWorkers B.names worker.new }
+        ensures count { length worker.new ≡ B.shards }
     {
-        at_shard!(self, shard, worker_of(seat), Err((Refusal::Stranger, seat)))
+        at_shard!(self, shard, io_turn(rt, gate, worker), unreachable!())
     }
 
-    /// Writes pages of a shard back while there are any to write, and sleeps where there are none, until it is told to stop.
-    pub fn flusher<R: Wait, G: Gate>(&self, rt: &R, gate: &G, shard: u64, worker: &mut Worker)
-        requires worker { IsWorkerAt (B.names shard) worker.old }
-        requires there { shard < B.shards }
-        ensures worker { IsWorkerAt (B.names shard) worker.new }
-        ensures goes { Goes (seat_of worker.old) (seat_of worker.new) }
-        ensures only { Only (λ e. IsWriteBack e.event) (seat_of worker.old) (seat_of worker.new) }
-        ensures own { EndsOwn (B.names shard).name (seat_of worker.old) (seat_of worker.new) }
-        ensures popped { popped_by worker.new ≡ popped_by worker.old }
-        ensures alone { is_alone worker.new ≡ is_alone worker.old }
-        ensures carried { AllCarried worker.old worker.new }
+    /// One turn of a flusher of a shard: it begins to write the lowest page of the first file that has one to write, and puts the job into
+    /// the shard's ring. Where the ring is full it makes the device call itself, for which the gate is entered with the job's serial.
+    /// Refused only where no write was begun.
+    pub fn flusher_turn<R: Wait, G: Gate>(
+        &self,
+        rt: &R,
+        gate: &G,
+        shard: u64,
+        worker: &mut ShardWorker,
+    ) -> Result<Flushed, Denied>
+        requires there { (shard < B.shards) × (length worker.old ≡ B.shards) }
+        requires workers { AreWorkers B.names worker.old }
+        ensures turn { WorksAt shard (WritesOne (B.names shard) result) worker.old worker.new }
+        ensures workers { AreWorkers B.names worker.new }
+        ensures count { length worker.new ≡ B.shards }
     {
-        at_shard!(self, shard, flusher(rt, gate, worker), unreachable!())
+        at_shard!(self, shard, flusher_turn(rt, gate, worker), unreachable!())
     }
 
-    /// Carries out the jobs of a shard's ring, and sleeps where there are none, until it is told to stop.
-    pub fn io_worker<R: Wait, G: Gate>(&self, rt: &R, gate: &G, shard: u64, worker: &mut Worker)
-        requires worker { IsWorkerAt (B.names shard) worker.old }
-        requires there { shard < B.shards }
-        ensures worker { IsWorkerAt (B.names shard) worker.new }
-        ensures goes { Goes (seat_of worker.old) (seat_of worker.new) }
-        ensures only { Only (λ e. IsEnd e.event) (seat_of worker.old) (seat_of worker.new) }
-        ensures pushed { pushed_by worker.new ≡ pushed_by worker.old }
-        ensures alone { is_alone worker.new ≡ is_alone worker.old }
-        ensures ended { AllEnded worker.old worker.new }
-        ensures emptied { fifo.Held 0 (Stands (view worker.new.pass)) }
+    /// One turn of an evictor of a shard: while few frames are free, pages of the active list age and the first idle page goes. It ends
+    /// where enough are free, or no page is idle, and answers how many pages went. Refused by a full trail alone. The gate is entered with
+    /// 0 before each.
+    pub fn evictor_turn<R: Wait, G: Gate>(
+        &self,
+        rt: &R,
+        gate: &G,
+        shard: u64,
+        worker: &mut ShardWorker,
+    ) -> Result<u64, Denied>
+        requires there { (shard < B.shards) × (length worker.old ≡ B.shards) }
+        requires workers { AreWorkers B.names worker.old }
+        ensures turn { WorksAt shard (LetsSome (B.names shard) result) worker.old worker.new }
+        ensures workers { AreWorkers B.names worker.new }
+        ensures count { length worker.new ≡ B.shards }
+    {
+        at_shard!(self, shard, evictor_turn(rt, gate, worker), unreachable!())
+    }
+
+    /// Carries out the jobs of a shard's ring, and sleeps where there are none. Told to stop, it goes on till no flusher of the shard is in
+    /// its loop and the ring is empty.
+    pub fn io_worker<R: Wait, G: Gate>(
+        &self,
+        rt: &R,
+        gate: &G,
+        shard: u64,
+        worker: &mut ShardWorker,
+    )
+        requires there { (shard < B.shards) × (length worker.old ≡ B.shards) }
+        requires workers { AreWorkers B.names worker.old }
+        ensures turn { WorksAt shard (EndsAll (B.names shard)) worker.old worker.new }
+        ensures workers { AreWorkers B.names worker.new }
+        ensures count { length worker.new ≡ B.shards }
     {
         at_shard!(self, shard, io_worker(rt, gate, worker), unreachable!())
     }
 
+    /// Writes pages of a shard back while there are any to write, and sleeps where there are none, until it is told to stop.
+    pub fn flusher<R: Wait, G: Gate>(&self, rt: &R, gate: &G, shard: u64, worker: &mut ShardWorker)
+        requires there { (shard < B.shards) × (length worker.old ≡ B.shards) }
+        requires workers { AreWorkers B.names worker.old }
+        ensures turn { WorksAt shard (WritesBack (B.names shard)) worker.old worker.new }
+        ensures workers { AreWorkers B.names worker.new }
+        ensures count { length worker.new ≡ B.shards }
+    {
+        at_shard!(self, shard, flusher(rt, gate, worker), unreachable!())
+    }
+
     /// Lets pages of a shard go while few frames are free, and sleeps where enough are, until it is told to stop.
-    pub fn evictor<R: Wait, G: Gate>(&self, rt: &R, gate: &G, shard: u64, worker: &mut Worker)
-        requires worker { IsWorkerAt (B.names shard) worker.old }
-        requires there { shard < B.shards }
-        ensures worker { IsWorkerAt (B.names shard) worker.new }
-        ensures goes { Goes (seat_of worker.old) (seat_of worker.new) }
-        ensures only { Only (λ e. IsEviction e.event) (seat_of worker.old) (seat_of worker.new) }
-        ensures ring { (popped_by worker.new ≡ popped_by worker.old) × (pushed_by worker.new ≡ pushed_by worker.old) }
-        ensures alone { is_alone worker.new ≡ is_alone worker.old }
+    pub fn evictor<R: Wait, G: Gate>(&self, rt: &R, gate: &G, shard: u64, worker: &mut ShardWorker)
+        requires there { (shard < B.shards) × (length worker.old ≡ B.shards) }
+        requires workers { AreWorkers B.names worker.old }
+        ensures turn { WorksAt shard (LetsPages (B.names shard)) worker.old worker.new }
+        ensures workers { AreWorkers B.names worker.new }
+        ensures count { length worker.new ≡ B.shards }
     {
         at_shard!(self, shard, evictor(rt, gate, worker), unreachable!())
     }
-}
 
-impl<B: ShardNaming, D: BlockDevice, T: Trail> ShardedCache<B, D, T> {
     /// Tells the workers of all shards to stop. It waits for none of them.
     pub fn stop<R: Wait>(&self, rt: &R) {
         self.place_0.stop(rt);
@@ -175,18 +294,5 @@ impl<B: ShardNaming, D: BlockDevice, T: Trail> ShardedCache<B, D, T> {
         self.place_13.stop(rt);
         self.place_14.stop(rt);
         self.place_15.stop(rt);
-    }
-}
-
-impl<B: ShardNaming, D: BlockDevice, T: Trail, const K: u64> Served<B, D, T, K> {
-    fn worker_of(&mut self, seat: Seat) -> Result<Worker, (Refusal, Seat)>
-        requires seat { seat.name ≡ (B.names K).name → seat.table ≡ (B.names K).table }
-        ensures foreign { IsErr result ↔ (seat.name ≢ (B.names K).name) }
-        ensures err { IfErr result (λ e. (e.0 ≡ Stranger) × (e.1 ≡ seat)) }
-        ensures worker { IfOk result (IsWorkerAt (B.names K)) }
-        ensures seat { IfOk result (λ w. seat_of w ≡ seat) }
-        ensures new { IfOk result (λ w. (popped_by w ≡ []) × (pushed_by w ≡ [])) }
-    {
-        self.cache.worker(&mut self.own, seat)
     }
 }
