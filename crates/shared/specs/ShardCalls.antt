@@ -7,7 +7,7 @@ use Rattle.held.specs.Called.{Goes, Once, Only}
 use Rattle.held.specs.Shown.{SeatSeen}
 use Rattle.held.specs.declared.denied.Denied.{Denied}
 use Rattle.held.specs.declared.log.Slip.{Slip}
-use Rattle.machine.specs.Catalogs.{Catalog}
+use Rattle.catalog.specs.Cataloged.{Cataloged}
 use Rattle.machine.specs.State.{State}
 use Rattle.machine.specs.declared.event.Event.TheVariants as event
 use Rattle.machine.specs.declared.event.Reply.TheVariants as reply
@@ -210,7 +210,7 @@ pub record Places (n : CacheNames) (answered : State → Type 0) (before after :
   pub stands : (state : State) × After n.files n.sizes n.name after.list state × answered state
 
 -- `catalog`
-pub record Lists (n : CacheNames) (result : Result Catalog Refusal) (before after : SeatSeen) : Type 0 where
+pub record Lists (n : CacheNames) (result : Result Cataloged Refusal) (before after : SeatSeen) : Type 0 where
   pub goes : Goes before after
   pub only : Only (λ _. ⊥) before after
   pub told : (state : State) × After n.files n.sizes n.name after.list state × IfOk result (Tells state)
