@@ -20,3 +20,5 @@ pub mod Settling
 pub mod ShardHalves
 pub mod ShardRowing
 pub mod ShardSeated
+pub mod ShardMaking
+pub mod ShardPlacing
