@@ -21,3 +21,5 @@ pub mod ShardHalves
 pub mod ShardPlaces
 pub mod ShardRowing
 pub mod ShardSeated
+pub mod ShardMaking
+pub mod ShardPlacing
