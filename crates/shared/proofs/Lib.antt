@@ -20,3 +20,4 @@ pub mod Settling
 pub mod ShardHalves
 pub mod ShardRowing
 pub mod ShardSeated
+pub mod ShardFroms
