@@ -22,3 +22,4 @@ pub mod ShardRowing
 pub mod ShardSeated
 pub mod ShardFroms
 pub mod ShardEnding
+pub mod ShardStaffing

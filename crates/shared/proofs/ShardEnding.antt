@@ -158,6 +158,29 @@ closed_as n own column seats records cache core device name named same disk core
 
 module _ (k shards : ℕ) (names : ℕ → CacheNames) {D T : Type 0} (records : T → List Entry → Type 0) (cache : T → Option ℕ)
     (told : D → Told) (own : List Worker) (seats : List (List SeatSeen)) where
+  -- none has ended yet
+  pub none_ended_yet : (ends : Ends D T) (callers : ℕ) → shards ≤ k → HasAll shards names own seats → callers ≡ length seats
+      → IsRoomFor shards callers ends → HasEndedFrom k shards names records cache told own seats own seats ends
+  none_ended_yet ends callers past all counted room = record {
+    workers = sym (take_all k own (omega (arith, all.workers.0, past)));
+    rows = whole seats (recursion_from_All (λ row. length row ≤ k) seats
+        (All-weaker (IsSeated shards names) (λ row. length row ≤ k)
+        (λ row is. let long : length row ≡ shards = is.0 in omega (arith, long, past)) seats all.came));
+    columns = (
+      omega (arith, room.columns.0, past),
+      All-weaker (λ c. (c.items ≡ []) × (callers ≤ vec_capacity c)) (λ c. (c.items ≡ []) × (length seats ≤ vec_capacity c))
+          (λ c h. (h.0, omega (arith, h.1, counted))) ends.columns.items room.columns.1,
+    );
+    closed = subst (AllFrom (ClosesAt names records cache told own seats) k) (sym room.closed.0) tt;
+    count = omega (arith, ends.closed.ok.0, ap length room.closed.0, past);
+    spare = room.closed.1;
+  }
+    where
+      whole : (rows : List (List SeatSeen)) → AllByRecursion (λ row. length row ≤ k) rows → rows ≡ map (take k) rows
+      whole [] h = refl
+      whole (row ∷ rows) h =
+          ap (λ r. r ∷ rows) (sym (take_all k row h.0)) ∙ ap (λ rs. take k row ∷ rs) (whole rows h.1)
+
   -- there is no such shard
   pub no_such_shard : (workers : List Worker) (rows : List (List SeatSeen)) (ends : Ends D T) → shards ≤ k → HasAll shards names own seats
       → HasEndedFrom (k + 1) shards names records cache told own seats workers rows ends

@@ -142,7 +142,10 @@ impl<B: ShardNaming, D: BlockDevice, T: Trail + Drop, const K: u64> Place<B, D, 
         let Some(cache) = caches.pop() else {
             return;
         };
-        let (Some(own), Some(desk)) = (workers.pop(), ends.columns.pop()) else {
+        let Some(own) = workers.pop() else {
+            unreachable!()
+        };
+        let Some(desk) = ends.columns.pop() else {
             unreachable!()
         };
         let column = take_last(seats, K, desk);

@@ -54,10 +54,13 @@ impl<B: ShardNaming, D: BlockDevice, T: Trail, const K: u64> Place<B, D, T, K> {
         ensures same { seats.new.items ++ map seat_of workers.new.items ≡ seats.old.items ++ map seat_of workers.old.items }
         ensures room { vec_capacity seats.new ≡ vec_capacity seats.old }
     {
-        let (Some(cache), Some(own)) = (self.caches.first(), own.workers.get_mut(K as usize)) else {
+        let Some(cache) = self.caches.first() else {
             return;
         };
         let Some(seat) = seats.pop() else {
+            unreachable!()
+        };
+        let Some(own) = own.workers.get_mut(K as usize) else {
             unreachable!()
         };
         let Ok(worker) = cache.worker(own, seat) else {
