@@ -15,7 +15,7 @@ use Rattle.pc_types.specs.Limits.{Sizes}
 use Rattle.ring.specs.declared.ring.Ring.{Ring}
 use Rattle.shared.proofs.ShardFroms.{from_at}
 use Rattle.shared.specs.Keeps.{IsDisk, IsLeftBy}
-use Rattle.shared.specs.ShardEnds.{ClosesAt, HasAll, HasEndedFrom, IsClosed, IsRoomFor}
+use Rattle.shared.specs.ShardEnds.{ClosesAt, HasAll, HasEndedFrom, IsClosed, IsRoomFor, IsRoomOf}
 use Rattle.shared.specs.ShardNames.{CacheNames}
 use Rattle.shared.specs.ShardSeats.{AreSeated, IsSeated, no_seat, part}
 use Rattle.shared.specs.ShardWorkers.{AllFrom, AreWorkers, IsWorkerAt}
@@ -75,14 +75,14 @@ taken_last k own ws w less is =
     let same = same_from_push (take k own) ws (slice_index_or own k w) w (sym (take_more own k w less) ∙ is) in
     (sym same.0, slice_get-get_or own k w less ∙ ap Some same.1)
 
-pub own_worker : (k : ℕ) (names : ℕ → CacheNames) (own : List Worker) (w : Worker) (ring : Ring) → k < length own → AreWorkers names own
-    → slice_get own k ≡ Some w → (names k).ring ≡ Some ring
+pub own_worker : (k : ℕ) (names : ℕ → CacheNames) (own workers ws : List Worker) (w : Worker) (ring : Ring) → k < length own
+    → AreWorkers names own → workers ≡ take (k + 1) own → workers ≡ ws ++ w ∷ [] → (names k).ring ≡ Some ring
     → IsWorkerOf ring (names k).name (names k).table (names k).deeds (names k).sizes w
-own_worker k names own w ring less are at is =
+own_worker k names own workers ws w ring less are left popped is =
     subst (λ o. IfSome o (λ r. IsWorkerOf r (names k).name (names k).table (names k).deeds (names k).sizes w)) is here
   where
-    P : ℕ → Worker → Type 0
-    P j x = IsWorkerAt (names j) x
+    at : slice_get own k ≡ Some w
+    at = (taken_last k own ws w less (sym left ∙ popped)).1
 
     first : (0 + k) ≡ k
     first = omega arith
@@ -156,20 +156,30 @@ closed_as n own column seats records cache core device name named same disk core
 
 -- ---- one shard after another, the last first
 
+pub all_there : (shards count : ℕ) (names : ℕ → CacheNames) (own : List Worker) (seats : List (List SeatSeen)) → count ≡ length seats
+    → (length own ≡ shards) × AreWorkers names own → ((k : ℕ) → k < shards → (names k).seats ≡ count + 1) → All (IsSeated shards names) seats
+    → All (AreSeated names) seats → HasAll shards names own seats
+all_there shards count names own seats counted are callers came tables = record {
+  workers = are;
+  callers = λ k less. callers k less ∙ ap (λ n. n + 1) counted;
+  came = came;
+  tables = tables;
+}
+
 module _ (k shards : ℕ) (names : ℕ → CacheNames) {D T : Type 0} (records : T → List Entry → Type 0) (cache : T → Option ℕ)
     (told : D → Told) (own : List Worker) (seats : List (List SeatSeen)) where
   -- none has ended yet
-  pub none_ended_yet : (ends : Ends D T) (callers : ℕ) → shards ≤ k → HasAll shards names own seats → callers ≡ length seats
-      → IsRoomFor shards callers ends → HasEndedFrom k shards names records cache told own seats own seats ends
-  none_ended_yet ends callers past all counted room = record {
-    workers = sym (take_all k own (omega (arith, all.workers.0, past)));
+  pub none_ended_yet : (workers : List Worker) (ends : Ends D T) (callers : ℕ) → shards ≤ k → HasAll shards names own seats
+      → workers ≡ own → callers ≡ length seats → IsRoomFor shards callers ends
+      → HasEndedFrom k shards names records cache told own seats workers seats ends
+  none_ended_yet workers ends callers past all same counted room = record {
+    workers = same ∙ sym (take_all k own (omega (arith, all.workers.0, past)));
     rows = whole seats (recursion_from_All (λ row. length row ≤ k) seats
         (All-weaker (IsSeated shards names) (λ row. length row ≤ k)
         (λ row is. let long : length row ≡ shards = is.0 in omega (arith, long, past)) seats all.came));
     columns = (
       omega (arith, room.columns.0, past),
-      All-weaker (λ c. (c.items ≡ []) × (callers ≤ vec_capacity c)) (λ c. (c.items ≡ []) × (length seats ≤ vec_capacity c))
-          (λ c h. (h.0, omega (arith, h.1, counted))) ends.columns.items room.columns.1,
+      subst (λ n. All (IsRoomOf n) ends.columns.items) counted room.columns.1,
     );
     closed = subst (AllFrom (ClosesAt names records cache told own seats) k) (sym room.closed.0) tt;
     count = omega (arith, ends.closed.ok.0, ap length room.closed.0, past);
@@ -210,18 +220,18 @@ module _ (k shards : ℕ) (names : ℕ → CacheNames) {D T : Type 0} (records :
       none = nil_from_length ends.closed.items (omega (arith, ends.closed.ok.0, ended.count, past))
 
   -- the shard's cache has ended
-  pub one_more_ended : (workers ws : List Worker) (rows : List (List SeatSeen)) (w : Worker) (c : Closed D T) (ends after : Ends D T)
+  pub one_more_ended : (workers ws : List Worker) (rows rest : List (List SeatSeen)) (w : Worker) (c : Closed D T) (ends after : Ends D T)
       → k < shards → HasAll shards names own seats
       → HasEndedFrom (k + 1) shards names records cache told own seats workers rows ends
       → workers ≡ ws ++ w ∷ []
       → (vec_len after.columns + 1 ≡ vec_len ends.columns)
-      × All (λ column. (column.items ≡ []) × (length seats ≤ vec_capacity column)) after.columns.items
-      → after.closed.items ≡ c ∷ ends.closed.items → vec_capacity ends.closed ≤ vec_capacity after.closed
+      × All (IsRoomOf (length seats)) after.columns.items
+      → rest ≡ map (take k) rows → after.closed.items ≡ c ∷ ends.closed.items → vec_capacity ends.closed ≤ vec_capacity after.closed
       → IsClosed (names k) w (map (λ row. part row k) rows) (records c.trail) (cache c.trail) c.core.state (told c.device)
-      → HasEndedFrom k shards names records cache told own seats ws (map (take k) rows) after
-  one_more_ended workers ws rows w c ends after less all ended popped columns closed room is = record {
+      → HasEndedFrom k shards names records cache told own seats ws rest after
+  one_more_ended workers ws rows rest w c ends after less all ended popped columns left closed room is = record {
     workers = last.0;
-    rows = ap (map (take k)) ended.rows ∙ taken_of_taken k seats;
+    rows = left ∙ (ap (map (take k)) ended.rows ∙ taken_of_taken k seats);
     columns = (one_less, columns.1);
     closed = subst (AllFrom (ClosesAt names records cache told own seats) k) (sym closed) ((w, last.1, here), ended.closed);
     count = counted;
