@@ -23,3 +23,6 @@ pub mod ShardRowing
 pub mod ShardSeated
 pub mod ShardMaking
 pub mod ShardPlacing
+pub mod ShardFroms
+pub mod ShardEnding
+pub mod ShardStaffing
