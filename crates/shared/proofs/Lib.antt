@@ -21,3 +21,4 @@ pub mod ShardHalves
 pub mod ShardRowing
 pub mod ShardSeated
 pub mod ShardFroms
+pub mod ShardWorking

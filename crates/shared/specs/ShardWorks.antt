@@ -18,7 +18,7 @@ use Rattle.shared.specs.declared.turns.Flushed.{Flushed}
 use Rattle.shared.specs.declared.worker.Worker.{Worker}
 
 -- `io_turn`
-pub record EndsOne (n : CacheNames) (passed : ℕ → Type 0) (result : Option Done) (old new : Worker) : Type 0 where
+pub record EndsOne (n : CacheNames) (through : ℕ → Type 0) (result : Option Done) (old new : Worker) : Type 0 where
   pub worker : IsWorkerAt n new
   pub goes : Goes (seat_of old) (seat_of new)
   pub only : Only (λ e. IsEnd e.event) (seat_of old) (seat_of new)
@@ -30,7 +30,7 @@ pub record EndsOne (n : CacheNames) (passed : ℕ → Type 0) (result : Option D
       × Ends job (seat_of old) (seat_of new) d.slip (is_some d.failed) × IfSome d.failed (IsOwnFailure n.name n.board))
   pub one : IfSome result (λ d. MadeOne (Some d.slip) (seat_of old) (seat_of new))
   pub file : IfSome result (λ d. IfSome d.failed (λ w. IsOfRequest n.files n.sizes n.name d.serial.0 (seat_of new) d.slip w.receipt))
-  pub passed : IfSome result (λ d. passed d.serial.0)
+  pub passed : IfSome result (λ d. through d.serial.0)
 
 -- `flusher_turn`
 pub record WritesOne (n : CacheNames) (result : Result Flushed Denied) (old new : Worker) : Type 0 where
