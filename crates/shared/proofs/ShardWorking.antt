@@ -1,5 +1,5 @@
 -- What a call in one shard leaves of a caller's workers.
-use Rattle.std.proofs.Common.{◌≡◌, ◌<◌, ◌+◌, ◌∙◌, ℕ, List, [], ◌∷◌, length, nat_lt, if◌then◌else◌, slice_get, slice_index_or, slice_set, All, Option, None, Some, refl, subst, sym, ap, arith}
+use Rattle.std.proofs.Common.{◌≡◌, ◌<◌, ◌≤◌, ◌+◌, ◌∙◌, ℕ, List, [], ◌∷◌, length, nat_lt, if◌then◌else◌, slice_get, slice_index_or, slice_set, All, Option, None, Some, refl, subst, sym, ap, arith}
 use Rattle.std.proofs.lemmas.Bool.Decides.{nat_tests}
 use Rattle.std.proofs.lemmas.List.Elements.{All-get_or}
 use Rattle.std.proofs.lemmas.Option.{get_or_from_slice_get, none-some, slice_get_read, slice_get_within}
@@ -14,6 +14,12 @@ pub there_is : {X : Type 0} (k shards count : ℕ) (seen : List X) → k < shard
     → length seen ≡ count → None ≡ slice_get seen 0 → ⊥
 there_is k shards count [] less is len none = grind (arith, nat_tests)
 there_is k shards count (x ∷ xs) less is len none = none-some x none
+
+-- there is no shard of this number, and so no cache of it
+pub none_there : {X : Type 0} (k shards count : ℕ) (seen : List X) (x : X) → shards ≤ k → count ≡ (if nat_lt k shards then 1 else 0)
+    → length seen ≡ count → Some x ≡ slice_get seen 0 → ⊥
+none_there k shards count [] x over is len first = none-some x (sym first)
+none_there k shards count (y ∷ ys) x over is len first = grind (arith, nat_tests)
 
 -- the ring of the shard's cache
 pub ring_of : {X : Type 0} (all seen : List X) (x : X) (ring : Option Ring) (its : X → Ring) → seen ≡ all → Some x ≡ slice_get seen 0
