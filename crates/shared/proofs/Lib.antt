@@ -18,6 +18,7 @@ pub mod Wanting
 pub mod Carrying
 pub mod Settling
 pub mod ShardHalves
+pub mod ShardPlaces
 pub mod ShardRowing
 pub mod ShardSeated
 pub mod ShardFroms
