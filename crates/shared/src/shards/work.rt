@@ -89,7 +89,7 @@ impl<B: ShardNaming, D: BlockDevice, T: Trail, const K: u64> Place<B, D, T, K> {
         ensures turn { WorksAt K (EndsOne (B.names K) (G.passed gate.now) result) worker.old worker.new }
         ensures workers { AreWorkers B.names worker.new }
     {
-        let Some(cache) = self.caches.first() else {
+        let Some(cache) = self.cache() else {
             unreachable!()
         };
         let Some(own) = worker.workers.get_mut(K as usize) else {
@@ -109,7 +109,7 @@ impl<B: ShardNaming, D: BlockDevice, T: Trail, const K: u64> Place<B, D, T, K> {
         ensures turn { WorksAt K (WritesOne (B.names K) result) worker.old worker.new }
         ensures workers { AreWorkers B.names worker.new }
     {
-        let Some(cache) = self.caches.first() else {
+        let Some(cache) = self.cache() else {
             unreachable!()
         };
         let Some(own) = worker.workers.get_mut(K as usize) else {
@@ -129,7 +129,7 @@ impl<B: ShardNaming, D: BlockDevice, T: Trail, const K: u64> Place<B, D, T, K> {
         ensures turn { WorksAt K (LetsSome (B.names K) result) worker.old worker.new }
         ensures workers { AreWorkers B.names worker.new }
     {
-        let Some(cache) = self.caches.first() else {
+        let Some(cache) = self.cache() else {
             unreachable!()
         };
         let Some(own) = worker.workers.get_mut(K as usize) else {
@@ -144,7 +144,7 @@ impl<B: ShardNaming, D: BlockDevice, T: Trail, const K: u64> Place<B, D, T, K> {
         ensures turn { WorksAt K (EndsAll (B.names K)) worker.old worker.new }
         ensures workers { AreWorkers B.names worker.new }
     {
-        let Some(cache) = self.caches.first() else {
+        let Some(cache) = self.cache() else {
             unreachable!()
         };
         let Some(own) = worker.workers.get_mut(K as usize) else {
@@ -159,7 +159,7 @@ impl<B: ShardNaming, D: BlockDevice, T: Trail, const K: u64> Place<B, D, T, K> {
         ensures turn { WorksAt K (WritesBack (B.names K)) worker.old worker.new }
         ensures workers { AreWorkers B.names worker.new }
     {
-        let Some(cache) = self.caches.first() else {
+        let Some(cache) = self.cache() else {
             unreachable!()
         };
         let Some(own) = worker.workers.get_mut(K as usize) else {
@@ -174,7 +174,7 @@ impl<B: ShardNaming, D: BlockDevice, T: Trail, const K: u64> Place<B, D, T, K> {
         ensures turn { WorksAt K (LetsPages (B.names K)) worker.old worker.new }
         ensures workers { AreWorkers B.names worker.new }
     {
-        let Some(cache) = self.caches.first() else {
+        let Some(cache) = self.cache() else {
             unreachable!()
         };
         let Some(own) = worker.workers.get_mut(K as usize) else {
@@ -185,7 +185,7 @@ impl<B: ShardNaming, D: BlockDevice, T: Trail, const K: u64> Place<B, D, T, K> {
 
     /// Tells this shard's workers to stop.
     fn stop<R: Wait>(&self, rt: &R) {
-        if let Some(cache) = self.caches.first() {
+        if let Some(cache) = self.cache() {
             cache.stop(rt);
         }
     }

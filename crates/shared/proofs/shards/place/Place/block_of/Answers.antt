@@ -1,4 +1,5 @@
 use Rattle.std.proofs.Common.{rules}
+use Rattle.cachecore.specs.Standing.{SpotIs}
 use Rattle.shared.specs.ShardCalls.{Places}
 use Rattle.shared.proofs.ShardSeated.{called, not_named, seated_after, stayed}
 use Rattle.shared.proofs.shards.place.Place.block_of.Goals as goal
@@ -15,5 +16,5 @@ returns-clause-seated g c =
 
 pub returns-clause-call : goal.returns-clause-call
 returns-clause-call g c = λ there. called
-    (Places (g.B.ShardNaming.names g.row.K) c.args.file c.args.page c.block_of_in.result)
+    (Places (g.B.ShardNaming.names g.row.K) (λ s. SpotIs s c.args.file.0 c.args.page.0 c.block_of_in.result))
     (g.B.ShardNaming.names g.row.K).name c.args.seat.now c.seat.inside.seats.items g.row.K c.in-Some-get_mut.own.now c.block_of_in.new.own c.seat.view_is (search rules) c.in-Some-get_mut.ensures.value c.block_of_in.ensures.call

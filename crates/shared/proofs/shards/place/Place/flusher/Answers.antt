@@ -1,19 +1,13 @@
-use Rattle.std.proofs.Common.{rules, lit<, vec_len}
+use Rattle.std.proofs.Common.{rules, lit<}
 use Rattle.shared.specs.ShardWorks.{WritesBack}
-use Rattle.shared.proofs.ShardWorking.{given_back, lent, ring_of, there_is, worked}
+use Rattle.shared.proofs.ShardWorking.{given_back, lent, worked}
 use Rattle.shared.proofs.shards.place.Place.flusher.Goals as goal
-
-pub unreachable-requires : goal.unreachable-requires
-unreachable-requires g c =
-    there_is g.row.K g.B.ShardNaming.shards (vec_len c.args.self.now.caches) c.deref.result.now c.requires.there.0 c.args.self.now.there
-    c.deref.ensures.len c.in_default.ensures.value
 
 pub flusher_in-requires : goal.flusher_in-requires
 flusher_in-requires g c = (
   lit< tt,
   (
-    ring_of c.args.self.now.caches.items c.deref.result.now c.in-Some.cache.now (g.B.ShardNaming.names g.row.K).ring (λ s. s.ring)
-        c.deref.ensures.value c.in-Some.ensures.value c.args.self.now.ringed,
+    c.in-Some.ensures.ringed,
     lent g.B.ShardNaming.names c.args.worker.now c.worker.inside.workers.items g.row.K c.in-Some-get_mut.own.now c.worker.view_is
         (search rules) c.in-Some-get_mut.ensures.value c.requires.workers,
   ),
