@@ -26,3 +26,4 @@ pub mod ShardPlacing
 pub mod ShardFroms
 pub mod ShardEnding
 pub mod ShardStaffing
+pub mod ShardWorking
