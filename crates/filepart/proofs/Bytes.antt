@@ -5,19 +5,6 @@ use Rattle.std.proofs.lemmas.List.{drop-drop, drop-take, drop-append-le, take-ap
 use Rattle.blockdev.specs.Files.{bytes_at}
 use Rattle.blockdev.proofs.BlockLemmas.{placed}
 
-pub length-bytes_at : (f l : ℕ) (all : List ℕ) → f + l ≤ length all → length (bytes_at all f l) ≡ l
-length-bytes_at f l all h = length-take-le l (drop f all) (omega (arith, length-drop f all))
-
--- bytes of a part, by their place in all
-pub bytes_at-in : (f l o n : ℕ) (all : List ℕ) → o + n ≤ l → bytes_at (bytes_at all f l) o n ≡ bytes_at all (f + o) n
-bytes_at-in f l o n all h =
-    let m = l - o in
-    let whole : l ≡ o + m = omega arith in
-    let rest : drop o (take l (drop f all)) ≡ take m (drop (f + o) all) =
-    ap (λ (k : ℕ). drop o (take k (drop f all))) whole ∙ drop-take o m (drop f all) ∙ ap (take m) (drop-drop o f all)
-    in
-    ap (take n) rest ∙ take-take n m (drop (f + o) all) (omega arith)
-
 -- what is before the bytes put in stays
 pub take-put : (f o n : ℕ) (all these : List ℕ) → f + o ≤ length all → take f (placed all (f + o) these n) ≡ take f all
 take-put f o n all these h =

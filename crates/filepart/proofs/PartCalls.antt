@@ -1,40 +1,55 @@
--- What a call of the file behind is, as a call of the part.
-use Rattle.std.proofs.Common.{◌≡◌, ◌∙◌, sym, ap, subst, refl, ℕ, ◌+◌, ◌≤◌, ◌⊎◌, inl, inr, List, ◌++◌, length, take, drop, Option, Some, None, option_map, IfSome, arith}
-use Rattle.blockdev.specs.Files.{bytes_at, put_at}
+-- What a write of the file behind is, as a write of the part.
+use Rattle.std.proofs.Common.{◌≡◌, ◌∙◌, ap, refl, ℕ, ◌+◌, ◌≤◌, ◌⊎◌, inl, inr, List, ◌++◌, length, take, drop, Bool, true, false, Option, Some, None, IfSome, arith}
+use Rattle.blockdev.specs.Files.{put_at}
 use Rattle.filepart.specs.Parts.{part_of, outside_of, Outside}
-use Rattle.filepart.proofs.Bytes.{length-bytes_at, bytes_at-in, bytes_at-put, take-put, drop-past_put}
+use Rattle.filepart.proofs.Bytes.{bytes_at-put, take-put, drop-past_put}
 
 -- the file has the part
 abbrev pub IsLong : ℕ → ℕ → Option (List ℕ) → Type 0
 IsLong f l told = IfSome told (λ all. f + l ≤ length all)
 
--- the part has as many bytes as it says
-pub part_long : (f l : ℕ) (told : Option (List ℕ)) → IsLong f l told → IfSome (part_of f l told) (λ all. length all ≡ l)
-part_long f l None h = tt
-part_long f l (Some all) h = length-bytes_at f l all h
+-- the part after a write within it
+pub put_in : (f l o : ℕ) (told : Option (List ℕ)) (these : List ℕ) → o + length these ≤ l → IsLong f l told
+    → part_of f l (put_at told (f + o) these) ≡ put_at (part_of f l told) o these
+put_in f l o None these h long = refl
+put_in f l o (Some all) these h long = ap Some (bytes_at-put f l o (length these) all these refl h long)
 
--- bytes read
-pub read_in : (f l o n p : ℕ) (told : Option (List ℕ)) (out : List ℕ) → p ≡ f + o → o + n ≤ l → IfSome told (λ all. out ≡ bytes_at all p n) → IfSome (part_of f l told) (λ all. out ≡ bytes_at all o n)
-read_in f l o n p None out e h r = tt
-read_in f l o n p (Some all) out e h r = r ∙ ap (λ (k : ℕ). bytes_at all k n) e ∙ sym (bytes_at-in f l o n all h)
-
--- bytes that are within the part are within the file
-pub within_file : (f l o n p : ℕ) (told : Option (List ℕ)) → p ≡ f + o → o + n ≤ l → IsLong f l told → IfSome told (λ all. p + n ≤ length all)
-within_file f l o n p None e h long = tt
-within_file f l o n p (Some all) e h long = omega arith
-
--- bytes written
-pub put_in : (f l o p : ℕ) (told : Option (List ℕ)) (these : List ℕ) → p ≡ f + o → o + length these ≤ l → IsLong f l told → part_of f l (put_at told p these) ≡ put_at (part_of f l told) o these
-put_in f l o p None these e h long = refl
-put_in f l o p (Some all) these e h long =
-    ap (λ (k : ℕ). part_of f l (put_at (Some all) k these)) e ∙ ap Some (bytes_at-put f l o (length these) all these refl h long)
-
--- and what is outside the part stays
-pub put_outside : (f l o p : ℕ) (told : Option (List ℕ)) (these : List ℕ) → p ≡ f + o → o + length these ≤ l → IsLong f l told → outside_of f l (put_at told p these) ≡ outside_of f l told
-put_outside f l o p None these e h long = refl
-put_outside f l o p (Some all) these e h long =
+-- and what is outside it
+put_outside : (f l o : ℕ) (told : Option (List ℕ)) (these : List ℕ) → o + length these ≤ l → IsLong f l told
+    → outside_of f l (put_at told (f + o) these) ≡ outside_of f l told
+put_outside f l o None these h long = refl
+put_outside f l o (Some all) these h long =
     let before = take-put f o (length these) all these (omega arith) in
     let behind = drop-past_put (f + l) (f + o) (length these) all these refl (omega arith) (omega arith) in
-    ap (λ (k : ℕ). outside_of f l (put_at (Some all) k these)) e
-    ∙ ap (λ (xs : List ℕ). Some (xs, drop (f + l) (take (f + o) all ++ (these ++ drop (f + o + length these) all)))) before
+    ap (λ (xs : List ℕ). Some (xs, drop (f + l) (take (f + o) all ++ (these ++ drop (f + o + length these) all)))) before
     ∙ ap (λ (xs : List ℕ). Some (take f all, xs)) behind
+
+-- a write that fails took effect whole or not at all
+pub failed_in : (f l o : ℕ) (told new : Option (List ℕ)) (these : List ℕ) → o + length these ≤ l → IsLong f l told
+    → (new ≡ told) ⊎ (new ≡ put_at told (f + o) these)
+    → (part_of f l new ≡ part_of f l told) ⊎ (part_of f l new ≡ put_at (part_of f l told) o these)
+failed_in f l o told new these h long e = elim e [
+  | inl same ↦ inl (ap (part_of f l) same)
+  | inr put ↦ inr (ap (part_of f l) put ∙ put_in f l o told these h long)
+]
+
+-- what is outside the part after a write of this answer
+pub write_outside : (f l o : ℕ) (r : Bool) (told synced new resynced : Option (List ℕ)) (these : List ℕ) → o + length these ≤ l → IsLong f l told
+    → (r ≡ true → new ≡ put_at told (f + o) these) → (r ≡ false → (new ≡ told) ⊎ (new ≡ put_at told (f + o) these))
+    → (resynced ≡ synced) ⊎ (resynced ≡ new) → Outside f l told synced new resynced
+write_outside f l o r told synced new resynced these h long well failed settled = record {
+  bytes = same;
+  synced = elim settled [
+    | inl was ↦ inl (ap (outside_of f l) was)
+    | inr held ↦ inr (ap (outside_of f l) held ∙ same)
+  ];
+} where
+  put : new ≡ put_at told (f + o) these → outside_of f l new ≡ outside_of f l told
+  put e = ap (outside_of f l) e ∙ put_outside f l o told these h long
+
+  by_answer : (r : Bool) → (r ≡ true → new ≡ put_at told (f + o) these) → (r ≡ false → (new ≡ told) ⊎ (new ≡ put_at told (f + o) these)) → outside_of f l new ≡ outside_of f l told
+  by_answer true well failed = put (well refl)
+  by_answer false well failed = elim (failed refl) [ inl e ↦ ap (outside_of f l) e | inr e ↦ put e ]
+
+  same : outside_of f l new ≡ outside_of f l told
+  same = by_answer r well failed

@@ -1,7 +1,7 @@
 -- Parts of one file that share no byte.
-use Rattle.std.proofs.Common.{◌≡◌, ◌∙◌, sym, ap, refl, ℕ, ◌+◌, ◌-◌, ◌≤◌, ◌⊎◌, inl, inr, List, take, drop, Option, Some, None, option_map, arith}
+use Rattle.std.proofs.Common.{◌≡◌, ◌∙◌, sym, ap, refl, ℕ, ◌+◌, ◌-◌, ◌≤◌, inl, inr, List, take, drop, Option, Some, None, option_map, arith}
 use Rattle.std.proofs.lemmas.List.{drop-drop, drop-take, take-take}
-use Rattle.filepart.specs.Parts.{part_of, outside_of, Outside, OutsideGoesOn, AreApart, PartsAreApart, Unwritten}
+use Rattle.filepart.specs.Parts.{part_of, outside_of, Outside, OutsideGoesOn, AreApart, PartsAreApart}
 
 outside_same : (f l : ℕ) (b s : Option (List ℕ)) → Outside f l b s b s
 outside_same f l b s = record { bytes = refl; synced = inl refl }
