@@ -4,10 +4,11 @@ use Rattle.std.proofs.lemmas.List.{drop-drop, drop-take, take-take}
 use Rattle.filepart.specs.Parts.{part_of, outside_of, Outside, OutsideGoesOn, AreApart, PartsAreApart}
 
 outside_same : (f l : ℕ) (b s : Option (List ℕ)) → Outside f l b s b s
-outside_same f l b s = record { bytes = refl; synced = inl refl }
+outside_same f l b s = record { size = refl; bytes = refl; synced = inl refl }
 
 pub outside_then : (f l : ℕ) (b s mb ms nb ns : Option (List ℕ)) → Outside f l b s mb ms → Outside f l mb ms nb ns → Outside f l b s nb ns
 outside_then f l b s mb ms nb ns a z = record {
+  size = z.size ∙ a.size;
   bytes = z.bytes ∙ a.bytes;
   synced = elim z.synced [
     | inl was ↦ elim a.synced [ inl first ↦ inl (was ∙ first) | inr held ↦ inr (was ∙ held) ]

@@ -1,18 +1,23 @@
 -- A part of a file: bytes of it in a row, as a file of their own.
-use Rattle.std.specs.Prelude.{◌≡◌, ℕ, ◌+◌, ◌≤◌, ◌⊎◌, List, take, drop, Option, option_map}
+use Rattle.std.specs.Prelude.{◌≡◌, ℕ, ◌+◌, ◌≤◌, ◌⊎◌, List, length, take, drop, Option, option_map}
 use Rattle.blockdev.specs.Files.{bytes_at}
 
 -- what a file tells, as the part tells it: as many bytes from the first on
 abbrev pub part_of : ℕ → ℕ → Option (List ℕ) → Option (List ℕ)
 part_of first len told = option_map (λ (all : List ℕ). bytes_at all first len) told
 
+-- how many bytes are told
+abbrev pub length_of : Option (List ℕ) → Option ℕ
+length_of told = option_map (λ (all : List ℕ). length all) told
+
 -- of what a file tells, the bytes before the part and those behind it
 abbrev pub outside_of : ℕ → ℕ → Option (List ℕ) → Option (List ℕ × List ℕ)
 outside_of first len told = option_map (λ (all : List ℕ). (take first all, drop (first + len) all)) told
 
--- a file before and after calls of a part, by its bytes and those that are synced: outside the part it holds what it held, and what is
--- synced there is what was, or what it holds
+-- a file before and after calls of a part, by its bytes and those that are synced: it is as long as it was, outside the part it holds
+-- what it held, and what is synced there is what was, or what it holds
 pub record Outside (first len : ℕ) (was was_synced now now_synced : Option (List ℕ)) : Type 0 where
+  pub size : length_of now ≡ length_of was
   pub bytes : outside_of first len now ≡ outside_of first len was
   pub synced : (outside_of first len now_synced ≡ outside_of first len was_synced) ⊎ (outside_of first len now_synced ≡ outside_of first len was)
 

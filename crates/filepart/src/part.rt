@@ -58,7 +58,6 @@ impl<F: RawFile> RawFile for FilePart<F> {
 
     /// A write that reaches past the part is refused, and the file behind is not called.
     fn write_at(&mut self, these: &[u8], offset: u64) -> bool
-        requires within { IfSome (part_of self.old.first self.old.len (F.bytes self.old.file)) (λ all. offset + length these.now ≤ length all) }
         ensures written { result ≡ true → part_of self.new.first self.new.len (F.bytes self.new.file) ≡ put_at (part_of self.old.first self.old.len (F.bytes self.old.file)) offset these.now }
         ensures whole { result ≡ false → (part_of self.new.first self.new.len (F.bytes self.new.file) ≡ part_of self.old.first self.old.len (F.bytes self.old.file)) ⊎ (part_of self.new.first self.new.len (F.bytes self.new.file) ≡ put_at (part_of self.old.first self.old.len (F.bytes self.old.file)) offset these.now) }
         ensures synced { (part_of self.new.first self.new.len (F.synced self.new.file) ≡ part_of self.old.first self.old.len (F.synced self.old.file)) ⊎ (part_of self.new.first self.new.len (F.synced self.new.file) ≡ part_of self.new.first self.new.len (F.bytes self.new.file)) }

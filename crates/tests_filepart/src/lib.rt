@@ -5,3 +5,9 @@
 
 #[cfg(test)]
 mod checks;
+#[cfg(test)]
+mod disk_tests;
+#[cfg(test)]
+mod owner;
+#[cfg(test)]
+mod tests;
