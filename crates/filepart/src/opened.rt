@@ -19,8 +19,9 @@ const MAX_BYTES: u64 = i64::MAX as u64;
 /// already: it is not made longer. `Io` with code 5: the path can't be opened for reading and writing, is neither a regular file nor a
 /// block special file, or has not so many blocks; or a block has no bytes. Nothing is left open then.
 ///
-/// Devices of one file that share no block are used side by side, each by its own hand. A flush asks the system for all of
-/// the file, so it may be told of another device's failed write, as that device is too.
+/// Devices of one file that share no block may be used at the same time. Whether they share one is not looked at, and what one of
+/// them writes no clause tells of another. A flush is of the whole file: it may fail for a write of another device, and that
+/// device's own flush fails for it as well.
 ///
 /// It takes one block's bytes here, and no memory later. No byte of the file is read here.
 pub fn open_part<R: Files<File = File>, P: AsPath>(

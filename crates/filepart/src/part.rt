@@ -7,7 +7,8 @@ ghost use Rattle.filepart.specs.Parts.{Outside, part_of};
 
 use blockdev::{RawFile, SystemFile};
 
-/// `len` bytes of a file, from byte `first` on.
+/// `len` bytes of a file, from byte `first` on. It knows what its own calls wrote: of two parts of a file of the system that are open at
+/// the same time, the one does not tell what the other wrote.
 #[derive(Drop)]
 pub struct FilePart<F: RawFile = SystemFile> {
     file: F,

@@ -117,7 +117,10 @@ fn what_is_no_part_is_refused(rt: HostRuntime) -> Result<(), Fail> {
     let (folder, path) = disk(&rt, "refused", "zero")?;
     check(&rt, is_refused(&rt, folder.as_path(), 4, 0, 1));
     for (block_size, first, count) in [(0, 0, 1), (16, 1 << 60, 0), (1 << 40, 1 << 22, 1 << 22)] {
-        check(&rt, is_refused(&rt, path.as_path(), block_size, first, count));
+        check(
+            &rt,
+            is_refused(&rt, path.as_path(), block_size, first, count),
+        );
     }
     fs::remove_file(&rt, path.as_path())?;
     check(&rt, is_refused(&rt, path.as_path(), 4, 0, 1));

@@ -58,7 +58,10 @@ fn reads(part: &FilePart<MemFile>, offset: u64, count: usize) -> bool
 #[test]
 fn a_read_past_the_part_is_refused(rt: HostRuntime) -> Result<(), Fail> {
     let part = FilePart::new(eight(&rt)?, 2, 3);
-    check(&rt, reads(&part, 0, 3) && reads(&part, 2, 1) && reads(&part, 3, 0));
+    check(
+        &rt,
+        reads(&part, 0, 3) && reads(&part, 2, 1) && reads(&part, 3, 0),
+    );
     for (offset, count) in [(0, 4), (2, 2), (3, 1), (4, 0), (u64::MAX, 8)] {
         check(&rt, count <= 8 && !reads(&part, offset, count));
     }
