@@ -5,12 +5,12 @@ use Rattle.std.specs.List.{list_any}
 use Rattle.std.proofs.lemmas.Bool.Decides.{nat_tests}
 use Rattle.std.proofs.lemmas.List.Elements.{All-nil, All-cons}
 use Rattle.blockdev.specs.Device.{Told}
-use Rattle.held.specs.Shown.{AreFresh, SeatSeen}
+
 use Rattle.shared.specs.ShardConfigs.{are_distinct, is_among, is_config}
 use Rattle.shared.specs.ShardNames.{CacheNames}
 use Rattle.pc_types.specs.Limits.{Sizes}
 use Rattle.shared.specs.ShardParts.{AllBoth, IsMadeOf}
-use Rattle.shared.specs.ShardSeats.{IsOfCache}
+
 use Rattle.shared.specs.declared.shards.parts.Source.{Source}
 use Rattle.trail.specs.Room.{Room}
 
@@ -69,9 +69,6 @@ pub config_is : (names : List ℕ) (seats : ℕ) → is_config names seats ≡ t
     → (0 < length names) × (length names ≤ 16) × (0 < seats) × (seats ≤ 64)
 config_is names seats is = grind (arith, nat_tests)
 
--- fresh seats are seats of the cache, as they were made
-pub fresh_seats : (n : CacheNames) (seats : List SeatSeen) → AreFresh n.table n.name seats → All (IsOfCache n) seats
-fresh_seats n seats fresh = λ k d less. let f = fresh k d less in (f.1, f.0, f.3, f.4)
 
 -- whether a name is among those of the sources
 pub among_is : {D T : Type 0} (name : ℕ) (sources : List (Source D T))

@@ -56,3 +56,32 @@ none_there k shards (x ∷ xs) there none less = cc
 -- what holds of the one
 pub all_of_one : {X : Type 0} (xs ys : List X) (x : X) → ys ≡ xs ++ x ∷ [] → xs ≡ [] → (P : X → Type 0) → P x → All P ys
 all_of_one xs ys x is none P p = subst (All P) (sym (is ∙ ap (λ zs. zs ++ x ∷ []) none)) (All-push P [] x (All-nil P) p)
+
+-- ---- at first all parts are left
+
+pub left_first : (shards n : ℕ) (all items : List CacheNames) → shards ≡ length all → items ≡ all → n ≡ length items → n ≤ 16
+    → n ≡ min shards 16
+left_first shards n all items long is count few =
+    let same : n ≡ shards = count ∙ ap length is ∙ sym long in
+    omega arith
+
+pub named_first : (names : ℕ → CacheNames) (n : ℕ) (all items : List CacheNames) → items ≡ all → n ≡ length items
+    → ((k : ℕ) → k < length all → names k ≡ names_at all k) → (k : ℕ) → k < n → names k ≡ names_at items k
+named_first names n all items is count named k less =
+    let same : n ≡ length all = count ∙ ap length is in
+    named k (omega arith) ∙ sym (ap (λ xs. names_at xs k) is)
+
+pub none_first : (shards n m : ℕ) (all items : List CacheNames) (workers : List Worker) → shards ≡ length all → items ≡ all
+    → n ≡ length items → n ≤ 16 → workers ≡ [] → m ≡ length workers → m ≡ shards - 16
+none_first shards n m all items workers long is count few none made =
+    let same : n ≡ shards = count ∙ ap length is ∙ sym long in
+    let empty : m ≡ 0 = made ∙ ap length none in
+    omega arith
+
+pub seats_each : (names : ℕ → CacheNames) (shards callers : ℕ) (all items : List CacheNames) → shards ≡ length all → items ≡ all
+    → ((k : ℕ) → k < length all → names k ≡ names_at all k) → All (λ (n : CacheNames). n.seats ≡ callers + 1) items
+    → (k : ℕ) → k < shards → (names k).seats ≡ callers + 1
+seats_each names shards callers all items long is named each k less =
+    let under : k < length all = subst (λ n. k < n) long less in
+    let within : k < length items = subst (λ n. k < n) (sym (ap length is)) under in
+    ap (λ (n : CacheNames). n.seats) (named k under ∙ sym (ap (λ xs. names_at xs k) is)) ∙ each k no_names within
