@@ -23,3 +23,5 @@ pub mod ShardSeated
 pub mod ShardFroms
 pub mod ShardEnding
 pub mod ShardStaffing
+pub mod ShardMaking
+pub mod ShardPlacing
