@@ -255,3 +255,12 @@ module _ (k shards : ℕ) (names : ℕ → CacheNames) {D T : Type 0} (records :
 
       here : IsClosed (names k) w (map (λ row. part row k) seats) (records c.trail) (cache c.trail) c.core.state (told c.device)
       here = subst (λ ss. IsClosed (names k) w ss (records c.trail) (cache c.trail) c.core.state (told c.device)) column is
+
+-- as many callers came as have seats
+pub callers_same : (shards callers count : ℕ) (names : ℕ → CacheNames) → 0 < shards → ((k : ℕ) → k < shards → (names k).seats ≡ callers + 1)
+    → ((k : ℕ) → k < shards → (names k).seats ≡ count + 1) → callers ≡ count
+callers_same shards callers count names some seated came = omega (arith, seated 0 some, came 0 some)
+
+pub room_same : {D T : Type 0} (ends : Ends D T) (shards callers count : ℕ) → callers ≡ count → IsRoomFor shards callers ends
+    → IsRoomFor shards count ends
+room_same ends shards callers count same room = subst (λ n. IsRoomFor shards n ends) same room
