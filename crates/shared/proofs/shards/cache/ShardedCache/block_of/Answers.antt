@@ -8,5 +8,5 @@ pub returns-clause-call : goal.returns-clause-call
 returns-clause-call g c =
     let less : c.args.file.0 % g.B.ShardNaming.shards < g.B.ShardNaming.shards = omega (arith, c.args.self.now.counted, c.args.self.now.some) in
     (subst (λ n. (c.args.file.0 % n) < g.B.ShardNaming.shards → is_of (g.B.ShardNaming.names (c.args.file.0 % n)).name c.args.seat.now (c.args.file.0 % n) ≡ true
-        → Places (g.B.ShardNaming.names (c.args.file.0 % n)) (λ s. SpotIs s (c.args.file.0 / n) c.args.page.0 c.block_at.result) (part c.args.seat.now (c.args.file.0 % n)) (part c.block_at.new.seat (c.args.file.0 % n)))
-        c.args.self.now.counted c.block_at.ensures.call) less
+    → Places (g.B.ShardNaming.names (c.args.file.0 % n)) (λ s. SpotIs s (c.args.file.0 / n) c.args.page.0 c.block_at.result) (part c.args.seat.now (c.args.file.0 % n)) (part c.block_at.new.seat (c.args.file.0 % n)))
+    c.args.self.now.counted c.block_at.ensures.call) less
