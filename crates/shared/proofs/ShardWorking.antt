@@ -14,7 +14,7 @@ lent names now inside k own same less is all =
     let here : own ≡ slice_index_or now k own = is ∙ ap (λ ws. slice_index_or ws k own) same in
     let from : 0 + k ≡ k = omega arith in
     subst (λ n. IsWorkerAt (names n) own) from
-        (subst (IsWorkerAt (names (0 + k))) (sym here) (from_at (λ n w. IsWorkerAt (names n) w) 0 k now own all less'))
+    (subst (IsWorkerAt (names (0 + k))) (sym here) (from_at (λ n w. IsWorkerAt (names n) w) 0 k now own all less'))
 
 -- what the call says of it
 pub worked : (P : Worker → Worker → Type 0) (now inside : List Worker) (k : ℕ) (own new : Worker) → inside ≡ now → k < length inside
@@ -30,4 +30,4 @@ pub given_back : (names : ℕ → CacheNames) (now inside : List Worker) (k : �
 given_back names now inside k new same less all is =
     let from : k ≡ 0 + k = omega arith in
     from_set (λ n w. IsWorkerAt (names n) w) 0 k inside new (subst (AreWorkers names) (sym same) all) less
-        (subst (λ n. IsWorkerAt (names n) new) from is)
+    (subst (λ n. IsWorkerAt (names n) new) from is)

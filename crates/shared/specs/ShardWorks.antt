@@ -1,10 +1,9 @@
 -- What a turn or a loop of a worker makes in a shard, of the worker there: what that of `SharedCache` says.
-use Rattle.std.specs.Prelude.{◌≡◌, ◌+◌, ◌++◌, ◌∷◌, [], ℕ, List, Option, Result, Some, IfErr, IfNone, IfOk, IfSome, is_some, min, ◌-◌, ◌^◌}
+use Rattle.std.specs.Prelude.{◌≡◌, ◌+◌, ◌++◌, ◌∷◌, [], ℕ, Option, Result, Some, IfErr, IfNone, IfOk, IfSome, is_some, min, ◌-◌, ◌^◌}
 use Rattle.blockdev.specs.Jobs.{Task}
 use Rattle.crossbeam_queue.specs.Fifo.{Held}
 use Rattle.crossbeam_queue.specs.Passes.{view}
 use Rattle.held.specs.Called.{Goes, Only}
-use Rattle.held.specs.Shown.{SeatSeen}
 use Rattle.held.specs.declared.denied.Denied.{Denied}
 use Rattle.ring.specs.Order.{Stands}
 use Rattle.shared.specs.Denials.{IsDenied, IsFullFor, MadeOne}

@@ -134,8 +134,8 @@ impl<B: ShardNaming, D: BlockDevice, T: Trail> ShardedCache<B, D, T> {
         )
     }
 
-    /// The files of a shard as they stand on its device, by the shard's own numbers: file F there is file F * n + shard here. `Stranger` where
-    /// there is no such shard, or the seat is of another cache; else as the shard's cache tells it.
+    /// The files of a shard as they stand on its device, by the shard's own numbers: file F there is file F * n + shard here. `Stranger`
+    /// where there is no such shard, or the seat is of another cache; else as the shard's cache tells it.
     pub fn catalog<R: Wait>(
         &self,
         rt: &R,
