@@ -21,17 +21,9 @@ pub mod ShardHalves
 pub mod ShardPlaces
 pub mod ShardRowing
 pub mod ShardSeated
-<<<<<<< HEAD
 pub mod ShardMaking
 pub mod ShardPlacing
 pub mod ShardFroms
 pub mod ShardEnding
 pub mod ShardStaffing
 pub mod ShardWorking
-=======
-pub mod ShardFroms
-pub mod ShardEnding
-pub mod ShardStaffing
-pub mod ShardMaking
-pub mod ShardPlacing
->>>>>>> from_sb
