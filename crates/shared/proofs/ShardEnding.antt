@@ -1,17 +1,15 @@
 -- The end of a cache of shards.
-use Rattle.std.proofs.Common.{◌≡◌, ◌≢◌, ◌<◌, ◌≤◌, ◌+◌, ◌-◌, ◌++◌, ◌∷◌, [], ◌∙◌, ℕ, zero, suc, List, Option, Some, IfSome, inl, inr, ⊎_elim, ◌⊎◌, length, refl, slice_index_or, subst, sym, ap, arith, true, vec_len}
-use Rattle.std.specs.Prelude.{All, Any, map, min, option_to_list, slice_get, take, vec_capacity}
+use Rattle.std.proofs.Common.{◌≡◌, ◌≢◌, ◌<◌, ◌≤◌, ◌+◌, ◌-◌, ◌++◌, ◌∷◌, [], ◌∙◌, ℕ, List, Option, Some, IfSome, ⊎_elim, ◌⊎◌, length, refl, slice_index_or, subst, sym, ap, arith, true, vec_len}
+use Rattle.std.specs.Prelude.{All, Any, map, min, slice_get, take, vec_capacity}
 use Rattle.std.specs.List.{AllByRecursion}
 use Rattle.std.proofs.lemmas.List.{get_or-take, length-map, length-take-le, nil_from_length, same_from_push, take-take, take_all, take_more}
-use Rattle.std.proofs.lemmas.List.Elements.{All-map, All-pop, All-weaker, recursion_from_All}
+use Rattle.std.proofs.lemmas.List.Elements.{All-map, All-weaker, recursion_from_All}
 use Rattle.std.proofs.lemmas.Option.{slice_get-get_or}
 use mathlib.Core.List.{IsPrefix}
-use Rattle.atomic_table.specs.Seated.{TableId}
 use Rattle.blockdev.specs.Device.{Told}
 use Rattle.held.specs.Shown.{SeatSeen}
 use Rattle.held.specs.Views.{count_of}
 use Rattle.machine.specs.State.{State}
-use Rattle.pc_types.specs.Limits.{Sizes}
 use Rattle.ring.specs.declared.ring.Ring.{Ring}
 use Rattle.shared.proofs.ShardFroms.{from_at}
 use Rattle.shared.specs.Keeps.{IsDisk, IsLeftBy}
@@ -110,8 +108,8 @@ column_came k shards name names own seats column less all named is =
     subst (λ ss. All (λ (s : SeatSeen). s.name ≡ name → s.table ≡ (names k).table) ss) (sym is)
     (All-map (λ (s : SeatSeen). s.name ≡ name → s.table ≡ (names k).table) (λ row. part row k) seats
     (λ j d inside of.
-        let long : length (slice_index_or seats j d) ≡ shards = (all.came j d inside).0 in
-        all.tables j d inside k (omega (arith, long, less)) (of ∙ named)))
+    let long : length (slice_index_or seats j d) ≡ shards = (all.came j d inside).0 in
+    all.tables j d inside k (omega (arith, long, less)) (of ∙ named)))
 
 -- so the cache is closed
 pub column_whole : (k shards name count : ℕ) (names : ℕ → CacheNames) (own : List Worker) (seats : List (List SeatSeen)) (column : List SeatSeen)
@@ -148,7 +146,7 @@ closed_as n own column seats records cache core device name named same disk core
   recorded = p.1;
   of = p.2 ∙ ap Some named;
   leaves =
-    subst (λ c. After n.files n.sizes c p.0 core) (core_is.0 ∙ named) (subst (λ s. After n.files s core.name p.0 core) core_is.1 p.3);
+      subst (λ c. After n.files n.sizes c p.0 core) (core_is.0 ∙ named) (subst (λ s. After n.files s core.name p.0 core) core_is.1 p.3);
   drained = p.4;
   seen = subst (All (λ s. IsPrefix s.list p.0 × (s.count ≡ count_of s.number p.0))) same p.5;
   left = p.6;

@@ -1,5 +1,5 @@
 -- A caller's workers, made shard by shard.
-use Rattle.std.proofs.Common.{◌≡◌, ◌<◌, ◌≤◌, ◌+◌, ◌++◌, ◌∷◌, [], ◌∙◌, ℕ, List, Option, Some, length, refl, slice_index_or, slice_set, subst, sym, ap, arith}
+use Rattle.std.proofs.Common.{◌≡◌, ◌<◌, ◌≤◌, ◌+◌, ◌++◌, ◌∷◌, [], ◌∙◌, ℕ, List, Some, length, slice_index_or, slice_set, subst, sym, ap, arith}
 use Rattle.std.specs.Prelude.{IfSome, if◌then◌else◌, map, nat_lt}
 use Rattle.std.proofs.lemmas.Bool.Decides.{nat_tests}
 use Rattle.std.proofs.lemmas.List.{append_assoc, get_or_append_left, length-set}
@@ -8,7 +8,7 @@ use Rattle.ring.specs.declared.ring.Ring.{Ring}
 use Rattle.shared.proofs.ShardFroms.{from_at, from_set}
 use Rattle.shared.specs.ShardNames.{CacheNames}
 use Rattle.shared.specs.ShardSeats.{no_seat, part}
-use Rattle.shared.specs.ShardWorkers.{AllFrom, AreWorkers, IsWorkerAt}
+use Rattle.shared.specs.ShardWorkers.{AreWorkers, IsWorkerAt}
 use Rattle.shared.specs.Workers.{IsWorkerOf, seat_of}
 use Rattle.shared.specs.declared.worker.Worker.{Worker}
 

@@ -22,12 +22,14 @@ seated_yes : (r : Bool) (shards : ℕ) (names : ℕ → CacheNames) (seats : Lis
     → MatchBool r (AllWithin (Finds shards names seats true) (range_with_len 0 shards) 0 (length (range_with_len 0 shards)))
     ((k : ℕ) × (k < length (range_with_len 0 shards)) × HoldsAt (Finds shards names seats false) (range_with_len 0 shards) k)
     → OnTrue r (IsSeated shards names seats)
-seated_yes true shards names seats long found =
-    (long, λ k less.
-        let within : k < length (range_with_len 0 shards) = omega (arith, less, length-range_with_len 0 shards) in
-        let at : slice_index_or (range_with_len 0 shards) k 0 ≡ 0 + k = get_or-range_with_len 0 shards k 0 less in
-        let same : slice_index_or (range_with_len 0 shards) k 0 ≡ k = omega (arith, at) in
-        of_named (names k).name seats k (subst (Finds shards names seats true) same (found k 0 (omega arith) within) less))
+seated_yes true shards names seats long found = (
+  long,
+  λ k less.
+      let within : k < length (range_with_len 0 shards) = omega (arith, less, length-range_with_len 0 shards) in
+      let at : slice_index_or (range_with_len 0 shards) k 0 ≡ 0 + k = get_or-range_with_len 0 shards k 0 less in
+      let same : slice_index_or (range_with_len 0 shards) k 0 ≡ k = omega (arith, at) in
+      of_named (names k).name seats k (subst (Finds shards names seats true) same (found k 0 (omega arith) within) less),
+)
 seated_yes false shards names seats long found = tt
 
 seated_no : (r : Bool) (shards : ℕ) (names : ℕ → CacheNames) (seats : List SeatSeen) → length seats ≡ shards

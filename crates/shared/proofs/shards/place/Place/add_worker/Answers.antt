@@ -1,6 +1,6 @@
-use Rattle.std.proofs.Common.{arith, ap, refl, subst, sym, ◌∙◌, ◌≡◌, ◌<◌, ◌≤◌, ◌+◌, [], ◌∷◌, Some, length, slice_index_or, vec_len}
+use Rattle.std.proofs.Common.{arith, ap, refl, subst, sym, ◌∙◌, ◌≡◌, ◌<◌, ◌≤◌, ◌+◌, [], Some, length, vec_len}
 use Rattle.std.proofs.lemmas.List.{nil_from_length}
-use Rattle.shared.specs.ShardSeats.{no_seat, part}
+use Rattle.shared.specs.ShardSeats.{no_seat}
 use Rattle.shared.specs.ShardWorkers.{AllFrom, IsWorkerAt}
 use Rattle.shared.proofs.ShardHalves.{last_is}
 use Rattle.shared.proofs.ShardStaffing.{no_shard, part_left, seats_same, some_shard, worker_at, worker_of, workers_after}

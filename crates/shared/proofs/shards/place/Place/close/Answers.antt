@@ -1,5 +1,5 @@
-use Rattle.std.proofs.Common.{arith, ap, refl, subst, sym, ◌∙◌, ◌≡◌, ◌<◌, ◌≤◌, ◌+◌, ◌-◌, ◌∷◌, Some, length, slice_index_or, vec_len}
-use Rattle.std.specs.Prelude.{map, take, vec_capacity}
+use Rattle.std.proofs.Common.{arith, ap, refl, ◌∙◌, ◌≡◌, ◌<◌, ◌≤◌, ◌+◌, ◌-◌, Some, length, vec_len}
+use Rattle.std.specs.Prelude.{map, take}
 use Rattle.std.proofs.lemmas.List.Elements.{All-pop}
 use Rattle.std.proofs.lemmas.List.{length-map}
 use Rattle.shared.specs.ShardEnds.{IsRoomOf}
@@ -77,9 +77,10 @@ returns g c =
           one_more_ended g.row.K g.B.ShardNaming.shards g.B.ShardNaming.names g.T.Trail.records g.T.Trail.cache g.D.BlockDevice.told own rows
           c.args.workers.now.items c.pop-2.new.self.items c.args.seats.now.items c.take_last-column.new.rows.items c.in-Some-pop.own
           (record { trail = c.in-Ok.trail; core = c.in-Ok.core; device = c.in-Ok.device }) c.args.ends.now
-          (record { columns = c.pop-3.new.self; closed = c.insert.new.self }) here all ended c.in-Some-pop.ensures.items
-          (c.in-Some-pop-2.ensures.cases,
-            (All-pop (IsRoomOf (length rows)) c.args.ends.now.columns.items c.pop-3.new.self.items (Some c.in-Some-pop-2.desk) c.in-Some-pop-2.ensures.items ended.columns.1).0)
+          (record { columns = c.pop-3.new.self; closed = c.insert.new.self }) here all ended c.in-Some-pop.ensures.items (
+            c.in-Some-pop-2.ensures.cases,
+            (All-pop (IsRoomOf (length rows)) c.args.ends.now.columns.items c.pop-3.new.self.items (Some c.in-Some-pop-2.desk) c.in-Some-pop-2.ensures.items ended.columns.1).0,
+          )
           c.take_last-column.ensures.left c.in-Ok-insert.ensures.items c.in-Ok-insert.ensures.capacity
           (closed_as (g.B.ShardNaming.names g.row.K) c.in-Some-pop.own c.take_last-column.result.items (map (λ row. part row g.row.K) c.args.seats.now.items)
           (g.T.Trail.records c.in-Ok.trail) (g.T.Trail.cache c.in-Ok.trail) c.in-Ok.core.state (g.D.BlockDevice.told c.in-Ok.device) c.in-Some.cache.name

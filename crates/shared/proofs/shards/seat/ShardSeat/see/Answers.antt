@@ -40,10 +40,11 @@ sees_there : (slip : Slip) (now inside : List SeatSeen) (shard k : ℕ) (own new
     → OnlyAt k now (slice_set inside shard new) × Sees slip (part now k) (part (slice_set inside shard new) k) result
 sees_there slip now inside shard k own new result same found is sees named first =
     subst (λ seats. OnlyAt k seats (slice_set inside shard new) × Sees slip (part seats k) (part (slice_set inside shard new) k) result) same
-    (subst (λ n. OnlyAt n inside (slice_set inside shard new) × Sees slip (part inside n) (part (slice_set inside shard new) n) result) at
-    (ap (λ s. slice_set inside shard s) (sym (get_or-set_same inside shard new no_seat found.0)),
+    (subst (λ n. OnlyAt n inside (slice_set inside shard new) × Sees slip (part inside n) (part (slice_set inside shard new) n) result) at (
+      ap (λ s. slice_set inside shard s) (sym (get_or-set_same inside shard new no_seat found.0)),
       at_part (λ a b. Sees slip a b result) inside shard own new found.0 is
-      (sees (ap (λ (s : SeatSeen). s.name) is ∙ found.1 own))))
+          (sees (ap (λ (s : SeatSeen). s.name) is ∙ found.1 own)),
+    ))
   where
     at : shard ≡ k
     at = the_first slip.name inside shard k found (ap (λ seats. (part seats k).name) same ∙ named)

@@ -1,4 +1,4 @@
-use Rattle.std.proofs.Common.{◌≡◌, map, vec_len}
+use Rattle.std.proofs.Common.{◌≡◌, map}
 use Rattle.std.specs.Vec.{vec_capacity}
 use Rattle.shared.specs.Workers.{seat_of}
 use Rattle.shared.proofs.shards.worker.ShardWorker.into_seat.Given as goal
