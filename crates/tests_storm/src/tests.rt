@@ -21,7 +21,7 @@ const NOTHING: Reserve = Reserve {
 };
 
 const USAGE: &str =
-    "pcache: usage: pcache run | pcache storm THREADS STEPS [PATH] | pcache torture SEED ROUNDS | pcache over PATH SIZE\n";
+    "pcache: usage: pcache run | pcache storm THREADS STEPS [PATH] | pcache torture SEED ROUNDS | pcache over PATH SIZE | pcache shards SHARDS THREADS STEPS\n";
 
 /// The refusals that may come of a storm whose device is honest: no frame, no block, too many dirty pages, too many requests in flight,
 /// and no turn. So memory is not wanted, the trail is not full, and no number is a stranger's.
