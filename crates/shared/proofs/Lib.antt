@@ -18,5 +18,6 @@ pub mod Wanting
 pub mod Carrying
 pub mod Settling
 pub mod ShardHalves
+pub mod ShardPlaces
 pub mod ShardRowing
 pub mod ShardSeated

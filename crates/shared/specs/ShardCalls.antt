@@ -1,14 +1,13 @@
 -- What a call makes in a shard, of the caller's seat there, where that is of the shard's cache: what the call of `SharedCache` says.
 use Rattle.std.specs.Prelude.{◌≡◌, ◌≢◌, ◌⊎◌, ◌+◌, ◌*◌, ◌-◌, ◌^◌, ◌≤◌, ℕ, Bool, List, Option, Result, Err, None, Some, IfErr, IfOk, IsOkUnless, drop, length, min, take}
-use Rattle.blockmap.specs.declared.spots.Placed.{Placed}
-use Rattle.cachecore.specs.Standing.{SpotIs, Tells}
+use Rattle.cachecore.specs.Standing.{Tells}
 use Rattle.cursor.specs.declared.seek.Seek.{Seek}
 use Rattle.errboard.specs.Shown.{PassSeen}
 use Rattle.held.specs.Called.{Goes, Once, Only}
 use Rattle.held.specs.Shown.{SeatSeen}
 use Rattle.held.specs.declared.denied.Denied.{Denied}
 use Rattle.held.specs.declared.log.Slip.{Slip}
-use Rattle.machine.specs.Catalogs.{Catalog}
+use Rattle.catalog.specs.Cataloged.{Cataloged}
 use Rattle.machine.specs.State.{State}
 use Rattle.machine.specs.declared.event.Event.TheVariants as event
 use Rattle.machine.specs.declared.event.Reply.TheVariants as reply
@@ -204,15 +203,14 @@ pub record Fsyncs (n : CacheNames) (first last : PageIndex) (old new : HandleSee
       ⊎ IsFinal n.files n.sizes n.name after d)
   pub settled : Settles n.name before after
 
--- `block_of` of the shard's own file
-pub record Places (n : CacheNames) (file : FileId) (page : PageIndex) (result : Result (Option Placed) Refusal) (before after : SeatSeen)
-    : Type 0 where
+-- `block_of`: of the shard's history as the seat sees it then, the answer is so
+pub record Places (n : CacheNames) (answered : State → Type 0) (before after : SeatSeen) : Type 0 where
   pub goes : Goes before after
   pub only : Only (λ _. ⊥) before after
-  pub stands : (state : State) × After n.files n.sizes n.name after.list state × SpotIs state file.0 page.0 result
+  pub stands : (state : State) × After n.files n.sizes n.name after.list state × answered state
 
 -- `catalog`
-pub record Lists (n : CacheNames) (result : Result Catalog Refusal) (before after : SeatSeen) : Type 0 where
+pub record Lists (n : CacheNames) (result : Result Cataloged Refusal) (before after : SeatSeen) : Type 0 where
   pub goes : Goes before after
   pub only : Only (λ _. ⊥) before after
   pub told : (state : State) × After n.files n.sizes n.name after.list state × IfOk result (Tells state)

@@ -1,5 +1,5 @@
 -- What the end of a cache of shards gives.
-use Rattle.std.specs.Prelude.{◌≡◌, ◌×◌, All, ℕ, List, Option, Some, true, ◌≤◌, [], vec_capacity, vec_len}
+use Rattle.std.specs.Prelude.{◌≡◌, All, ℕ, List, Option, Some, true, ◌≤◌, [], vec_capacity, vec_len}
 use mathlib.Core.List.{IsPrefix}
 use Rattle.blockdev.specs.Device.{Told}
 use Rattle.held.specs.Shown.{SeatSeen}

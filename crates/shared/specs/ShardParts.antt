@@ -1,5 +1,5 @@
 -- What the parts of a cache of shards are.
-use Rattle.std.specs.Prelude.{◌≡◌, ◌+◌, ◌×◌, ℕ, List, [], ◌∷◌, is_some}
+use Rattle.std.specs.Prelude.{◌≡◌, ◌+◌, ℕ, List, [], ◌∷◌, is_some}
 use Rattle.blockdev.specs.Device.{Told}
 use Rattle.machine.specs.Catalogs.{no_catalog}
 use Rattle.pc_types.specs.Limits.{Sizes}

@@ -1,5 +1,5 @@
 -- A caller's workers, one at each shard.
-use Rattle.std.specs.Prelude.{◌≡◌, ◌+◌, ◌×◌, ℕ, List, [], ◌∷◌, IfSome, Some, slice_get, slice_set}
+use Rattle.std.specs.Prelude.{◌≡◌, ◌+◌, ℕ, List, [], ◌∷◌, IfSome, Some, slice_get, slice_set}
 use Rattle.shared.specs.ShardNames.{CacheNames}
 use Rattle.shared.specs.Workers.{IsWorkerOf}
 use Rattle.shared.specs.declared.worker.Worker.{Worker}

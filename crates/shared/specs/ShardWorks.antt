@@ -1,5 +1,5 @@
 -- What a turn or a loop of a worker makes in a shard, of the worker there: what that of `SharedCache` says.
-use Rattle.std.specs.Prelude.{◌≡◌, ◌+◌, ◌++◌, ◌∷◌, ◌×◌, [], ℕ, List, Option, Result, Some, IfErr, IfNone, IfOk, IfSome, is_some, min, u64.MAX}
+use Rattle.std.specs.Prelude.{◌≡◌, ◌+◌, ◌++◌, ◌∷◌, [], ℕ, List, Option, Result, Some, IfErr, IfNone, IfOk, IfSome, is_some, min, u64.MAX}
 use Rattle.blockdev.specs.Jobs.{Task}
 use Rattle.crossbeam_queue.specs.Fifo.{Held}
 use Rattle.crossbeam_queue.specs.Passes.{view}

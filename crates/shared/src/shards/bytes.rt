@@ -150,7 +150,7 @@ impl<B: ShardNaming, D: BlockDevice, T: Trail, const K: u64> Place<B, D, T, K> {
         ensures seated { AreSeated B.names seat.new }
         ensures call { K < B.shards → is_of (B.names K).name seat.old K ≡ true → Reads (B.names K) handle.now.handle offset out.old out.new result (part seat.old K) (part seat.new K) }
     {
-        let Some(cache) = self.caches.first() else {
+        let Some(cache) = self.cache() else {
             return Err(without_slip(Refusal::BadHandle));
         };
         let Some(own) = seat.seats.get_mut(K as usize) else {
@@ -175,7 +175,7 @@ impl<B: ShardNaming, D: BlockDevice, T: Trail, const K: u64> Place<B, D, T, K> {
         ensures same { (handle.new.shard ≡ handle.old.shard) × (handle.new.handle ≡ record handle.old.handle { cursor = handle.new.handle.cursor }) }
         ensures call { K < B.shards → is_of (B.names K).name seat.old K ≡ true → ReadsOn (B.names K) handle.old.handle handle.new.handle out.old out.new result (part seat.old K) (part seat.new K) }
     {
-        let Some(cache) = self.caches.first() else {
+        let Some(cache) = self.cache() else {
             return Err(without_slip(Refusal::BadHandle));
         };
         let Some(own) = seat.seats.get_mut(K as usize) else {
@@ -200,7 +200,7 @@ impl<B: ShardNaming, D: BlockDevice, T: Trail, const K: u64> Place<B, D, T, K> {
         ensures same { (handle.new.shard ≡ handle.old.shard) × (handle.new.handle ≡ record handle.old.handle { cursor = handle.new.handle.cursor }) }
         ensures call { K < B.shards → is_of (B.names K).name seat.old K ≡ true → Moves (B.names K) place handle.old.handle handle.new.handle result (part seat.old K) (part seat.new K) }
     {
-        let Some(cache) = self.caches.first() else {
+        let Some(cache) = self.cache() else {
             return Err(without_slip(Refusal::BadHandle));
         };
         let Some(own) = seat.seats.get_mut(K as usize) else {
@@ -225,7 +225,7 @@ impl<B: ShardNaming, D: BlockDevice, T: Trail, const K: u64> Place<B, D, T, K> {
         ensures seated { AreSeated B.names seat.new }
         ensures call { K < B.shards → is_of (B.names K).name seat.old K ≡ true → Writes (B.names K) handle.now.handle offset bytes.now result (part seat.old K) (part seat.new K) }
     {
-        let Some(cache) = self.caches.first() else {
+        let Some(cache) = self.cache() else {
             return Err(without_slip(Refusal::BadHandle));
         };
         let Some(own) = seat.seats.get_mut(K as usize) else {
@@ -250,7 +250,7 @@ impl<B: ShardNaming, D: BlockDevice, T: Trail, const K: u64> Place<B, D, T, K> {
         ensures same { (handle.new.shard ≡ handle.old.shard) × (handle.new.handle ≡ record handle.old.handle { cursor = handle.new.handle.cursor }) }
         ensures call { K < B.shards → is_of (B.names K).name seat.old K ≡ true → WritesOn (B.names K) handle.old.handle handle.new.handle bytes.now result (part seat.old K) (part seat.new K) }
     {
-        let Some(cache) = self.caches.first() else {
+        let Some(cache) = self.cache() else {
             return Err(without_slip(Refusal::BadHandle));
         };
         let Some(own) = seat.seats.get_mut(K as usize) else {
@@ -274,7 +274,7 @@ impl<B: ShardNaming, D: BlockDevice, T: Trail, const K: u64> Place<B, D, T, K> {
         ensures seated { AreSeated B.names seat.new }
         ensures call { K < B.shards → is_of (B.names K).name seat.old K ≡ true → Cuts (B.names K) handle.now.handle size result (part seat.old K) (part seat.new K) }
     {
-        let Some(cache) = self.caches.first() else {
+        let Some(cache) = self.cache() else {
             return Err(without_slip(Refusal::BadHandle));
         };
         let Some(own) = seat.seats.get_mut(K as usize) else {
@@ -297,7 +297,7 @@ impl<B: ShardNaming, D: BlockDevice, T: Trail, const K: u64> Place<B, D, T, K> {
         ensures seated { AreSeated B.names seat.new }
         ensures call { K < B.shards → is_of (B.names K).name seat.old K ≡ true → Measures (B.names K) handle.now.handle result (part seat.old K) (part seat.new K) }
     {
-        let Some(cache) = self.caches.first() else {
+        let Some(cache) = self.cache() else {
             return Err(without_slip(Refusal::BadHandle));
         };
         let Some(own) = seat.seats.get_mut(K as usize) else {

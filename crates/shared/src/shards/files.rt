@@ -85,7 +85,7 @@ impl<B: ShardNaming, D: BlockDevice, T: Trail, const K: u64> Place<B, D, T, K> {
         ensures seated { AreSeated B.names seat.new }
         ensures call { is_of (B.names K).name seat.old K ≡ true → IfSome result (λ r. Creates (B.names K) r (part seat.old K) (part seat.new K)) }
     {
-        let Some(cache) = self.caches.first() else {
+        let Some(cache) = self.cache() else {
             return None;
         };
         let Some(own) = seat.seats.get_mut(K as usize) else {
@@ -112,7 +112,7 @@ impl<B: ShardNaming, D: BlockDevice, T: Trail, const K: u64> Place<B, D, T, K> {
         ensures board { IfOk result (λ r. r.0.handle.pass.board ≡ (B.names K).board) }
         ensures call { K < B.shards → is_of (B.names K).name seat.old K ≡ true → Opens (B.names K) file append (opened_in result) (part seat.old K) (part seat.new K) }
     {
-        let Some(cache) = self.caches.first() else {
+        let Some(cache) = self.cache() else {
             return Err(without_slip(Refusal::NoSuchFile));
         };
         let Some(own) = seat.seats.get_mut(K as usize) else {
@@ -137,7 +137,7 @@ impl<B: ShardNaming, D: BlockDevice, T: Trail, const K: u64> Place<B, D, T, K> {
         ensures seated { AreSeated B.names seat.new }
         ensures call { K < B.shards → is_of (B.names K).name seat.old K ≡ true → Closes (B.names K) handle.handle (closed_in result) (part seat.old K) (part seat.new K) }
     {
-        let Some(cache) = self.caches.first() else {
+        let Some(cache) = self.cache() else {
             return Err((without_slip(Refusal::BadHandle), handle));
         };
         let Some(own) = seat.seats.get_mut(K as usize) else {

@@ -1,6 +1,6 @@
 //! The place of a shard.
 
-ghost use Rattle.std.specs.Prelude.{◌≡◌, ◌<◌, ◌≤◌, ◌+◌, ◌-◌, [], ℕ, All, IfOk, Some, if◌then◌else◌, min, nat_lt, vec_capacity, vec_len};
+ghost use Rattle.std.specs.Prelude.{◌≡◌, ◌<◌, ◌≤◌, ◌+◌, ◌-◌, [], ℕ, All, IfOk, IfSome, Some, if◌then◌else◌, is_some, min, nat_lt, vec_capacity, vec_len};
 ghost use Rattle.shared.specs.ShardNames.{names_at};
 ghost use Rattle.shared.specs.ShardWorkers.{AllFrom, IsWorkerAt};
 
@@ -78,6 +78,14 @@ impl<B: ShardNaming, D: BlockDevice, T: Trail + Drop, const K: u64> Place<B, D, 
 }
 
 impl<B: ShardNaming, D: BlockDevice, T: Trail, const K: u64> Place<B, D, T, K> {
+    /// Its cache, where there are so many shards.
+    pub(crate) fn cache(&self) -> Option<&SharedCache<Shard<B, K>, D, T>>
+        ensures there { is_some result ≡ nat_lt K B.shards }
+        ensures ringed { IfSome result (λ c. (B.names K).ring ≡ Some c.now.ring) }
+    {
+        self.caches.first()
+    }
+
     /// The name of its cache, or 0 where there is none.
     pub(crate) fn name(&self) -> u64
         ensures { K < B.shards → result ≡ (B.names K).name }

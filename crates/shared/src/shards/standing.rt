@@ -1,6 +1,7 @@
 //! Where the files of a shard stand on its device.
 
 ghost use Rattle.std.specs.Prelude.{◌≡◌, ◌≢◌, ◌/◌, ◌%◌, ◌<◌, ◌≤◌, Err, false, true};
+ghost use Rattle.cachecore.specs.Standing.{SpotIs};
 ghost use Rattle.held.specs.Called.{Goes};
 ghost use Rattle.pc_types.specs.declared.refusal.Refusal.TheVariants.{NoSuchFile, Stranger};
 ghost use Rattle.shared.specs.ShardCalls.{Lists, Places};
@@ -30,7 +31,7 @@ impl<B: ShardNaming, D: BlockDevice, T: Trail, const K: u64> SharedCache<Shard<B
         requires seat { own.old.name ≡ (B.names K).name → own.old.table ≡ (B.names K).table }
         ensures goes { Goes own.old own.new }
         ensures foreign { own.old.name ≢ (B.names K).name → (result ≡ Err Stranger) × (own.new ≡ own.old) }
-        ensures call { own.old.name ≡ (B.names K).name → Places (B.names K) file page result own.old own.new }
+        ensures call { own.old.name ≡ (B.names K).name → Places (B.names K) (λ s. SpotIs s file.0 page.0 result) own.old own.new }
     {
         self.block_of(rt, own, file, page)
     }
@@ -59,7 +60,7 @@ impl<B: ShardNaming, D: BlockDevice, T: Trail, const K: u64> Place<B, D, T, K> {
         ensures foreign { K < B.shards → is_of (B.names K).name seat.old K ≡ false → (result ≡ Err Stranger) × (seat.new ≡ seat.old) }
         ensures others { OnlyAt K seat.old seat.new }
         ensures seated { AreSeated B.names seat.new }
-        ensures call { K < B.shards → is_of (B.names K).name seat.old K ≡ true → Places (B.names K) file page result (part seat.old K) (part seat.new K) }
+        ensures call { K < B.shards → is_of (B.names K).name seat.old K ≡ true → Places (B.names K) (λ s. SpotIs s file.0 page.0 result) (part seat.old K) (part seat.new K) }
     {
         let Some(cache) = self.caches.first() else {
             return Err(Refusal::NoSuchFile);
@@ -100,7 +101,7 @@ impl<B: ShardNaming, D: BlockDevice, T: Trail> ShardedCache<B, D, T> {
         ensures foreign { is_of (B.names (file.0 % B.shards)).name seat.old (file.0 % B.shards) ≡ false → (result ≡ Err Stranger) × (seat.new ≡ seat.old) }
         ensures others { OnlyAt (file.0 % B.shards) seat.old seat.new }
         ensures seated { AreSeated B.names seat.new }
-        ensures call { is_of (B.names (file.0 % B.shards)).name seat.old (file.0 % B.shards) ≡ true → Places (B.names (file.0 % B.shards)) (record { 0 = file.0 / B.shards }) page result (part seat.old (file.0 % B.shards)) (part seat.new (file.0 % B.shards)) }
+        ensures call { is_of (B.names (file.0 % B.shards)).name seat.old (file.0 % B.shards) ≡ true → Places (B.names (file.0 % B.shards)) (λ s. SpotIs s (file.0 / B.shards) page.0 result) (part seat.old (file.0 % B.shards)) (part seat.new (file.0 % B.shards)) }
     {
         let shard = file.0 % self.shards;
         let own = FileId(file.0 / self.shards);
@@ -120,7 +121,7 @@ impl<B: ShardNaming, D: BlockDevice, T: Trail> ShardedCache<B, D, T> {
         ensures foreign { shard < B.shards → is_of (B.names shard).name seat.old shard ≡ false → (result ≡ Err Stranger) × (seat.new ≡ seat.old) }
         ensures others { OnlyAt shard seat.old seat.new }
         ensures seated { AreSeated B.names seat.new }
-        ensures call { shard < B.shards → is_of (B.names shard).name seat.old shard ≡ true → Places (B.names shard) file page result (part seat.old shard) (part seat.new shard) }
+        ensures call { shard < B.shards → is_of (B.names shard).name seat.old shard ≡ true → Places (B.names shard) (λ s. SpotIs s file.0 page.0 result) (part seat.old shard) (part seat.new shard) }
     {
         at_shard!(
             self,

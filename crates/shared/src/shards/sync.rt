@@ -99,7 +99,7 @@ impl<B: ShardNaming, D: BlockDevice, T: Trail, const K: u64> Place<B, D, T, K> {
         ensures same { (handle.new.shard ≡ handle.old.shard) × (handle.new.handle ≡ record handle.old.handle { pass = handle.new.handle.pass }) × (handle.new.handle.pass.board ≡ handle.old.handle.pass.board) }
         ensures call { K < B.shards → is_of (B.names K).name seat.old K ≡ true → Fsyncs (B.names K) first last handle.old.handle handle.new.handle result (part seat.old K) (part seat.new K) }
     {
-        let Some(cache) = self.caches.first() else {
+        let Some(cache) = self.cache() else {
             return Err(without_slip(Refusal::BadHandle));
         };
         let Some(own) = seat.seats.get_mut(K as usize) else {
