@@ -1,14 +1,18 @@
 //! Storms over caches of shards, with what they print, what is said on standard error, and the status.
 
+ghost use Rattle.std.specs.Prelude.{◌≡◌, All, IfSome, vec_len};
+
+use crate::device_tests::Crossed;
+use crate::tests::{USAGE, with_due};
+use blockdev::MemDevice;
 use std::alloc::Global;
 use std::process::Abort;
 use std::sync::Wait;
 use std::test::Fail;
 use std::thread::Threads;
-use storm::{BLOCKS, Weather, run_shards};
+use storm::{BLOCKS, ShardAftermath, Weather, run_shards, shards_over};
+use storm_text::{Keeping, ShardOptions};
 use textline::Printer;
-
-use crate::tests::{USAGE, with_due};
 
 /// What a storm of these words is to give.
 #[derive(Clone, Copy)]
@@ -109,5 +113,49 @@ fn words_that_ask_for_no_shards_are_refused(rt: HostRuntime) -> Result<(), Fail>
         };
         check(&rt, rt.alloc(), row)?;
     }
+    Ok(())
+}
+
+/// Three devices, of which the second crosses.
+fn three_devices(alloc: Global) -> Option<Vec<Crossed>>
+    ensures { IfSome result (λ v. (vec_len v ≡ 3) × All (λ d. (d.size ≡ 64) × (d.count ≡ BLOCKS)) v.items) }
+{
+    let mut devices = Vec::new(alloc);
+    for shard in 0..3u64 {
+        let device = Crossed {
+            device: MemDevice::new(alloc, 64, BLOCKS).ok()?,
+            crosses: shard == 1,
+        };
+        devices.push(device).ok()?;
+    }
+    Some(devices)
+}
+
+/// A storm over shards of which one does not keep what is written to it.
+fn storm_over_crossed<R: Threads + Wait + Sync>(rt: &R, alloc: Global) -> Option<ShardAftermath> {
+    let devices = three_devices(alloc)?;
+    let options = ShardOptions {
+        shards: 3,
+        threads: 4,
+        steps: 200,
+    };
+    let weather = Weather {
+        seed: 1,
+        faults: 0,
+        blocks: BLOCKS,
+    };
+    shards_over(rt, alloc, devices, options, weather).ok()
+}
+
+/// Whichever schedule the storm has, a block of the one shard is lost, and none of the others.
+#[test]
+fn a_shard_whose_device_loses_blocks_is_found(rt: HostRuntime) -> Result<(), Fail> {
+    let mut lost = Vec::new(rt.alloc());
+    if let Some(after) = storm_over_crossed(&rt, rt.alloc()) {
+        for shard in &after.shards {
+            lost.push(matches!(shard.device, Keeping::Lost(_)))?;
+        }
+    }
+    assert_eq!(&rt; lost.as_slice(), &[false, true, false]);
     Ok(())
 }

@@ -1,6 +1,6 @@
 //! A storm over a cache of shards, and whether the history of each shard is that of plain files.
 
-ghost use Rattle.std.specs.Prelude.{◌≡◌, ◌×◌, ◌<◌, ◌≤◌, ℕ, All, IfOk, IfSome, length, vec_len};
+ghost use Rattle.std.specs.Prelude.{◌≡◌, ◌<◌, ◌≤◌, ℕ, All, IfSome, length, vec_len};
 ghost use Rattle.shared.specs.ShardNames.{names_at};
 ghost use Rattle.shared.specs.ShardSeats.{AreSeated};
 ghost use Rattle.shared.specs.ShardWorkers.{AreWorkers};
@@ -282,13 +282,15 @@ fn all_seats<B: ShardNaming>(
 ) -> Option<(Vec<ShardSeat>, Refused)>
     ensures { IfSome result (λ r. All (AreSeated B.names) r.0.items) }
 {
-    let (Some(rested), Some(done)) = back else {
-        return None;
-    };
+    let (rested, done) = back;
+    let rested = rested?;
     let mut members = Vec::new(alloc);
-    for caller in done {
-        refused.add(&caller.refused);
-        members.push(caller.member).ok()?;
+    for Done {
+        member,
+        refused: more,
+    } in done? {
+        refused.add(&more);
+        members.push(member).ok()?;
     }
     hand_back(rested, &mut members)?;
     Some((seats_of(alloc, members)?, refused))
