@@ -21,3 +21,9 @@ pub mod ShardHalves
 pub mod ShardPlaces
 pub mod ShardRowing
 pub mod ShardSeated
+pub mod ShardMaking
+pub mod ShardPlacing
+pub mod ShardFroms
+pub mod ShardEnding
+pub mod ShardStaffing
+pub mod ShardWorking

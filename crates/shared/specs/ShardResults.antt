@@ -3,10 +3,11 @@ use Rattle.std.specs.Prelude.{◌≡◌, ℕ, Result, Ok, Err}
 use Rattle.held.specs.declared.denied.Denied.{Denied}
 use Rattle.held.specs.declared.log.Slip.{Slip}
 use Rattle.pc_types.specs.declared.ids.FileId.{FileId}
+use Rattle.pc_types.specs.Refusals.{refusal_number}
 use Rattle.shared.specs.Seen.{HandleSeen}
 use Rattle.shared.specs.ShardCalls.{number_of}
 use Rattle.shared.specs.declared.shards.denied.CreateDenied.{CreateDenied}
-use Rattle.shared.specs.declared.shards.denied.CreateDenied.TheVariants.{ByShard}
+use Rattle.shared.specs.declared.shards.denied.CreateDenied.TheVariants.{ByShard, NoShard}
 use Rattle.shared.specs.declared.shards.handle.ShardHandle.{ShardHandle}
 
 -- the answer of the shard's `create`, with the file's number among all
@@ -23,3 +24,8 @@ opened_in (Err d) = Err d
 abbrev pub closed_in : Result Slip (Denied × ShardHandle) → Result Slip (Denied × HandleSeen)
 closed_in (Ok slip) = Ok slip
 closed_in (Err e) = Err (e.0, e.1.handle)
+
+-- the number of the refusal
+abbrev pub create_number : CreateDenied → ℕ
+create_number NoShard = 23
+create_number (ByShard d) = refusal_number d.refusal

@@ -1,5 +1,5 @@
 -- What a turn or a loop of a worker makes in a shard, of the worker there: what that of `SharedCache` says.
-use Rattle.std.specs.Prelude.{◌≡◌, ◌+◌, ◌++◌, ◌∷◌, [], ℕ, List, Option, Result, Some, IfErr, IfNone, IfOk, IfSome, is_some, min, u64.MAX}
+use Rattle.std.specs.Prelude.{◌≡◌, ◌+◌, ◌++◌, ◌∷◌, [], ℕ, List, Option, Result, Some, IfErr, IfNone, IfOk, IfSome, is_some, min, ◌-◌, ◌^◌}
 use Rattle.blockdev.specs.Jobs.{Task}
 use Rattle.crossbeam_queue.specs.Fifo.{Held}
 use Rattle.crossbeam_queue.specs.Passes.{view}
@@ -18,7 +18,7 @@ use Rattle.shared.specs.declared.turns.Flushed.{Flushed}
 use Rattle.shared.specs.declared.worker.Worker.{Worker}
 
 -- `io_turn`
-pub record EndsOne (n : CacheNames) (passed : ℕ → Type 0) (result : Option Done) (old new : Worker) : Type 0 where
+pub record EndsOne (n : CacheNames) (through : ℕ → Type 0) (result : Option Done) (old new : Worker) : Type 0 where
   pub worker : IsWorkerAt n new
   pub goes : Goes (seat_of old) (seat_of new)
   pub only : Only (λ e. IsEnd e.event) (seat_of old) (seat_of new)
@@ -30,7 +30,7 @@ pub record EndsOne (n : CacheNames) (passed : ℕ → Type 0) (result : Option D
       × Ends job (seat_of old) (seat_of new) d.slip (is_some d.failed) × IfSome d.failed (IsOwnFailure n.name n.board))
   pub one : IfSome result (λ d. MadeOne (Some d.slip) (seat_of old) (seat_of new))
   pub file : IfSome result (λ d. IfSome d.failed (λ w. IsOfRequest n.files n.sizes n.name d.serial.0 (seat_of new) d.slip w.receipt))
-  pub passed : IfSome result (λ d. passed d.serial.0)
+  pub passed : IfSome result (λ d. through d.serial.0)
 
 -- `flusher_turn`
 pub record WritesOne (n : CacheNames) (result : Result Flushed Denied) (old new : Worker) : Type 0 where
@@ -54,7 +54,7 @@ pub record LetsSome (n : CacheNames) (result : Result ℕ Denied) (old new : Wor
   pub worker : IsWorkerAt n new
   pub goes : Goes (seat_of old) (seat_of new)
   pub only : Only (λ e. IsEviction e.event) (seat_of old) (seat_of new)
-  pub gone : IfOk result (λ k. (pages : ℕ) × LetsGo pages (seat_of old) (seat_of new) × (k ≡ min pages u64.MAX))
+  pub gone : IfOk result (λ k. (pages : ℕ) × LetsGo pages (seat_of old) (seat_of new) × (k ≡ min pages (2 ^ 64 - 1)))
   pub enough : IfOk result (λ _. FindsEnough 16 n.files n.sizes n.name (seat_of new))
   pub ring : (popped_by new ≡ popped_by old) × (pushed_by new ≡ pushed_by old)
   pub alone : company_of new ≡ company_of old

@@ -79,6 +79,7 @@ impl<B: Naming, D: BlockDevice, T: Trail> SharedCache<B, D, T> {
         requires deeds { (parts.deeds.table ≡ B.deeds) × (parts.deeds.told ≡ B.told) × (parts.deeds.blocks ≡ B.blocks) }
         requires blocks { AreBlocksOf B.told B.blocks (D.told parts.device) }
         ensures named { result.0.name ≡ parts.name }
+        ensures ring { result.0.ring ≡ parts.ring }
         ensures own { IsWorkerOf result.0.ring B.name B.table B.deeds B.sizes result.1 }
         ensures untouched { result.1 ≡ parts.own }
     {

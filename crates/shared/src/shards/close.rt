@@ -1,10 +1,10 @@
 //! The end of a cache of shards.
 
 ghost use Rattle.std.specs.Bool.{OnFalse, OnTrue};
-ghost use Rattle.std.specs.Prelude.{◌≡◌, ◌<◌, ◌≤◌, ◌+◌, ◌-◌, ◌⊎◌, [], ℕ, All, IfErr, IfOk, Some, length, map, min, slice_get, take, vec_capacity, vec_len};
+ghost use Rattle.std.specs.Prelude.{◌≡◌, ◌<◌, ◌≤◌, ◌+◌, ◌-◌, ◌⊎◌, [], ℕ, All, IfErr, IfOk, List, Some, length, map, min, slice_get, take, vec_capacity, vec_len};
 ghost use Rattle.held.specs.Shown.{SeatSeen};
 ghost use Rattle.pc_types.specs.declared.refusal.Refusal.TheVariants.{Memory, Stranger};
-ghost use Rattle.shared.specs.ShardEnds.{IsClosed, IsRoomFor};
+ghost use Rattle.shared.specs.ShardEnds.{HasAll, HasEndedFrom, IsClosed, IsRoomFor};
 ghost use Rattle.shared.specs.ShardSeats.{AreSeated, IsSeated, part};
 ghost use Rattle.shared.specs.ShardWorkers.{AllFrom, AreWorkers};
 ghost use Rattle.shared.specs.declared.worker.Worker.{Worker};
@@ -134,12 +134,18 @@ impl<B: ShardNaming, D: BlockDevice, T: Trail + Drop, const K: u64> Place<B, D, 
         workers: &mut Vec<Worker>,
         seats: &mut Vec<ShardSeat>,
         ends: &mut Ends<D, T>,
-    ) {
+    )
+        requires ended { (own : List Worker) × (rows : List (List SeatSeen)) × HasAll B.shards B.names own rows × HasEndedFrom (K + 1) B.shards B.names T.records T.cache D.told own rows workers.old.items seats.old.items ends.old }
+        ensures ended { (own : List Worker) (rows : List (List SeatSeen)) → HasAll B.shards B.names own rows → HasEndedFrom (K + 1) B.shards B.names T.records T.cache D.told own rows workers.old.items seats.old.items ends.old → HasEndedFrom K B.shards B.names T.records T.cache D.told own rows workers.new.items seats.new.items ends.new }
+    {
         let Place { mut caches } = self;
         let Some(cache) = caches.pop() else {
             return;
         };
-        let (Some(own), Some(desk)) = (workers.pop(), ends.columns.pop()) else {
+        let Some(own) = workers.pop() else {
+            unreachable!()
+        };
+        let Some(desk) = ends.columns.pop() else {
             unreachable!()
         };
         let column = take_last(seats, K, desk);

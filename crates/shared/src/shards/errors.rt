@@ -23,7 +23,7 @@ impl<B: ShardNaming, D: BlockDevice, T: Trail, const K: u64> Place<B, D, T, K> {
         ensures same { handle.new ≡ record handle.old { handle = record handle.old.handle { pass = handle.new.handle.pass } } }
         ensures polled { IfOk result (Polled handle.old.handle.pass handle.new.handle.pass) }
     {
-        match self.caches.first() {
+        match self.cache() {
             Some(cache) => cache.poll_error(&mut handle.handle),
             None => Err(Refusal::BadHandle),
         }
@@ -40,7 +40,7 @@ impl<B: ShardNaming, D: BlockDevice, T: Trail, const K: u64> Place<B, D, T, K> {
         ensures knows { K < B.shards → handle.old.handle.cache ≡ (B.names K).name → failed.old.cache ≡ (B.names K).name → failed.old.receipt.file ≡ handle.old.handle.file.0 → length failed.old.receipt.recorded ≤ length handle.new.handle.pass.known }
         ensures failed { failed.new ≡ failed.old }
     {
-        match self.caches.first() {
+        match self.cache() {
             Some(cache) => cache.tell_error(&mut handle.handle, failed),
             None => Err(Refusal::BadHandle),
         }

@@ -47,8 +47,13 @@ impl<D: BlockDevice, T: Trail> Model for OneParts<D, T> {
     ghost use Rattle.shared.specs.Keeps.{AreBlocksOf, IsDisk, begun_with};
     ghost use Rattle.shared.specs.Workers.{IsWorkerOf};
     ghost use Rattle.shared.specs.ShardNames.{CacheNames};
+    ghost use Rattle.std.specs.Coded.{codes, coded_ℕ, coded×};
+    ghost use Rattle.atomic_table.specs.Seated.{table_id_coded};
+    ghost use Rattle.pc_types.specs.Spots.{Spot, place_cmp, spot_code};
 
     ghost Value = { CacheNames };
+
+    ghost coded = { Prim.hlevel (codes, table_id_coded, map.code {X = Spot} {R = place_cmp} (coded× coded_ℕ coded_ℕ) spot_code) };
 
     ghost view = { λ o. record {
       name = o.parts.name;
@@ -146,8 +151,14 @@ pub struct ShardParts<D: BlockDevice, T: Trail> {
 impl<D: BlockDevice, T: Trail> Model for ShardParts<D, T> {
     ghost use Rattle.std.specs.Prelude.{◌≡◌, ◌<◌, ◌≤◌, ◌+◌, All, List, vec_capacity, vec_len};
     ghost use Rattle.shared.specs.ShardNames.{CacheNames};
+    ghost use Rattle.std.specs.FinMap as map;
+    ghost use Rattle.std.specs.Coded.{codes, coded_ℕ, coded×};
+    ghost use Rattle.atomic_table.specs.Seated.{table_id_coded};
+    ghost use Rattle.pc_types.specs.Spots.{Spot, place_cmp, spot_code};
 
     ghost Value = { List CacheNames };
+
+    ghost coded = { Prim.hlevel (codes, table_id_coded, map.code {X = Spot} {R = place_cmp} (coded× coded_ℕ coded_ℕ) spot_code) };
 
     ghost view = { λ p. p.parts.items };
 

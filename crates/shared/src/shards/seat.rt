@@ -1,6 +1,6 @@
 //! A caller's seat at a cache of shards.
 
-ghost use Rattle.std.specs.Prelude.{◌≡◌, ◌≢◌, ◌<◌, ℕ, All, Err};
+ghost use Rattle.std.specs.Prelude.{◌≡◌, ◌≢◌, ◌<◌, ℕ, All, Err, length};
 ghost use Rattle.held.specs.Shown.{SeatSeen};
 ghost use Rattle.pc_types.specs.declared.refusal.Refusal.TheVariants.{Stranger};
 ghost use Rattle.shared.specs.ShardSeats.{OnlyAt, Sees, is_of, part};

@@ -62,7 +62,7 @@ impl<B: ShardNaming, D: BlockDevice, T: Trail, const K: u64> Place<B, D, T, K> {
         ensures seated { AreSeated B.names seat.new }
         ensures call { K < B.shards → is_of (B.names K).name seat.old K ≡ true → Places (B.names K) (λ s. SpotIs s file.0 page.0 result) (part seat.old K) (part seat.new K) }
     {
-        let Some(cache) = self.caches.first() else {
+        let Some(cache) = self.cache() else {
             return Err(Refusal::NoSuchFile);
         };
         let Some(own) = seat.seats.get_mut(K as usize) else {
@@ -80,7 +80,10 @@ impl<B: ShardNaming, D: BlockDevice, T: Trail, const K: u64> Place<B, D, T, K> {
         ensures seated { AreSeated B.names seat.new }
         ensures call { K < B.shards → is_of (B.names K).name seat.old K ≡ true → Lists (B.names K) result (part seat.old K) (part seat.new K) }
     {
-        let (Some(cache), Some(own)) = (self.caches.first(), seat.seats.get_mut(K as usize)) else {
+        let Some(cache) = self.cache() else {
+            return Err(Refusal::Stranger);
+        };
+        let Some(own) = seat.seats.get_mut(K as usize) else {
             return Err(Refusal::Stranger);
         };
         cache.catalog_in(rt, own)

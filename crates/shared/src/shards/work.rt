@@ -89,8 +89,10 @@ impl<B: ShardNaming, D: BlockDevice, T: Trail, const K: u64> Place<B, D, T, K> {
         ensures turn { WorksAt K (EndsOne (B.names K) (G.passed gate.now) result) worker.old worker.new }
         ensures workers { AreWorkers B.names worker.new }
     {
-        let (Some(cache), Some(own)) = (self.caches.first(), worker.workers.get_mut(K as usize))
-        else {
+        let Some(cache) = self.cache() else {
+            unreachable!()
+        };
+        let Some(own) = worker.workers.get_mut(K as usize) else {
             unreachable!()
         };
         cache.io_turn_in(rt, gate, own)
@@ -107,8 +109,10 @@ impl<B: ShardNaming, D: BlockDevice, T: Trail, const K: u64> Place<B, D, T, K> {
         ensures turn { WorksAt K (WritesOne (B.names K) result) worker.old worker.new }
         ensures workers { AreWorkers B.names worker.new }
     {
-        let (Some(cache), Some(own)) = (self.caches.first(), worker.workers.get_mut(K as usize))
-        else {
+        let Some(cache) = self.cache() else {
+            unreachable!()
+        };
+        let Some(own) = worker.workers.get_mut(K as usize) else {
             unreachable!()
         };
         cache.flusher_turn_in(rt, gate, own)
@@ -125,8 +129,10 @@ impl<B: ShardNaming, D: BlockDevice, T: Trail, const K: u64> Place<B, D, T, K> {
         ensures turn { WorksAt K (LetsSome (B.names K) result) worker.old worker.new }
         ensures workers { AreWorkers B.names worker.new }
     {
-        let (Some(cache), Some(own)) = (self.caches.first(), worker.workers.get_mut(K as usize))
-        else {
+        let Some(cache) = self.cache() else {
+            unreachable!()
+        };
+        let Some(own) = worker.workers.get_mut(K as usize) else {
             unreachable!()
         };
         cache.evictor_turn_in(rt, gate, own)
@@ -138,8 +144,10 @@ impl<B: ShardNaming, D: BlockDevice, T: Trail, const K: u64> Place<B, D, T, K> {
         ensures turn { WorksAt K (EndsAll (B.names K)) worker.old worker.new }
         ensures workers { AreWorkers B.names worker.new }
     {
-        let (Some(cache), Some(own)) = (self.caches.first(), worker.workers.get_mut(K as usize))
-        else {
+        let Some(cache) = self.cache() else {
+            unreachable!()
+        };
+        let Some(own) = worker.workers.get_mut(K as usize) else {
             unreachable!()
         };
         cache.io_worker_in(rt, gate, own)
@@ -151,8 +159,10 @@ impl<B: ShardNaming, D: BlockDevice, T: Trail, const K: u64> Place<B, D, T, K> {
         ensures turn { WorksAt K (WritesBack (B.names K)) worker.old worker.new }
         ensures workers { AreWorkers B.names worker.new }
     {
-        let (Some(cache), Some(own)) = (self.caches.first(), worker.workers.get_mut(K as usize))
-        else {
+        let Some(cache) = self.cache() else {
+            unreachable!()
+        };
+        let Some(own) = worker.workers.get_mut(K as usize) else {
             unreachable!()
         };
         cache.flusher_in(rt, gate, own)
@@ -164,8 +174,10 @@ impl<B: ShardNaming, D: BlockDevice, T: Trail, const K: u64> Place<B, D, T, K> {
         ensures turn { WorksAt K (LetsPages (B.names K)) worker.old worker.new }
         ensures workers { AreWorkers B.names worker.new }
     {
-        let (Some(cache), Some(own)) = (self.caches.first(), worker.workers.get_mut(K as usize))
-        else {
+        let Some(cache) = self.cache() else {
+            unreachable!()
+        };
+        let Some(own) = worker.workers.get_mut(K as usize) else {
             unreachable!()
         };
         cache.evictor_in(rt, gate, own)
@@ -173,7 +185,7 @@ impl<B: ShardNaming, D: BlockDevice, T: Trail, const K: u64> Place<B, D, T, K> {
 
     /// Tells this shard's workers to stop.
     fn stop<R: Wait>(&self, rt: &R) {
-        if let Some(cache) = self.caches.first() {
+        if let Some(cache) = self.cache() {
             cache.stop(rt);
         }
     }

@@ -47,17 +47,20 @@ impl<B: ShardNaming, D: BlockDevice, T: Trail, const K: u64> Place<B, D, T, K> {
         requires workers { AllFrom (λ k w. IsWorkerAt (B.names k) w) (K + 1) workers.old.items }
         ensures own { (length own.new ≡ B.shards) × AreWorkers B.names own.new }
         ensures left { vec_len seats.new ≡ min B.shards K }
-        ensures seated { (k : ℕ) → k < vec_len seats.new → part seats.new.items k ≡ part seats.old.items k }
+        ensures seated { (k : ℕ) → k < vec_len seats.new → ((part seats.new.items k).name ≡ (B.names k).name) × ((part seats.new.items k).table ≡ (B.names k).table) }
         ensures count { vec_len workers.new ≡ B.shards - K }
         ensures spare { B.shards ≤ vec_capacity workers.new }
         ensures workers { AllFrom (λ k w. IsWorkerAt (B.names k) w) K workers.new.items }
         ensures same { seats.new.items ++ map seat_of workers.new.items ≡ seats.old.items ++ map seat_of workers.old.items }
         ensures room { vec_capacity seats.new ≡ vec_capacity seats.old }
     {
-        let (Some(cache), Some(own)) = (self.caches.first(), own.workers.get_mut(K as usize)) else {
+        let Some(cache) = self.caches.first() else {
             return;
         };
         let Some(seat) = seats.pop() else {
+            unreachable!()
+        };
+        let Some(own) = own.workers.get_mut(K as usize) else {
             unreachable!()
         };
         let Ok(worker) = cache.worker(own, seat) else {

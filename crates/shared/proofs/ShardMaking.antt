@@ -1,0 +1,80 @@
+-- The parts of the caches of shards, made one after another.
+use Rattle.std.proofs.Common.{◌≡◌, ◌<◌, ◌≤◌, ◌+◌, ◌++◌, ◌∷◌, [], ◌∙◌, ℕ, true, List, length, drop, map, refl, subst, sym, ap, arith, suc}
+use Rattle.std.specs.Prelude.{All, eqb, ◌||◌}
+use Rattle.std.specs.List.{list_any}
+use Rattle.std.proofs.lemmas.Bool.Decides.{nat_tests}
+use Rattle.std.proofs.lemmas.List.Elements.{All-nil, All-cons}
+use Rattle.blockdev.specs.Device.{Told}
+use Rattle.held.specs.Shown.{AreFresh, SeatSeen}
+use Rattle.shared.specs.ShardConfigs.{are_distinct, is_among, is_config}
+use Rattle.shared.specs.ShardNames.{CacheNames}
+use Rattle.pc_types.specs.Limits.{Sizes}
+use Rattle.shared.specs.ShardParts.{AllBoth, IsMadeOf}
+use Rattle.shared.specs.ShardSeats.{IsOfCache}
+use Rattle.shared.specs.declared.shards.parts.Source.{Source}
+use Rattle.trail.specs.Room.{Room}
+
+-- the parts of the cache of a source
+abbrev pub Made : {D T : Type 0} → (D → Told) → (T → Room) → Sizes → ℕ → CacheNames → Source D T → Type 0
+Made told whole sizes callers n s = IsMadeOf sizes callers s.name (whole s.trail) (told s.device) n
+
+-- so it is with each of these, and the one of the same place among those
+abbrev pub AllFirst : {X Y : Type 0} → (X → Y → Type 0) → List X → List Y → Type 0
+AllFirst P [] ys = Unit {0}
+AllFirst P (x ∷ xs) [] = ⊥
+AllFirst P (x ∷ xs) (y ∷ ys) = P x y × AllFirst P xs ys
+
+module _ {X Y : Type 0} (P : X → Y → Type 0) where
+  pub first_more : (xs : List X) (ys rest : List Y) (x : X) (y : Y) → AllFirst P xs ys → drop (length xs) ys ≡ y ∷ rest → P x y
+      → AllFirst P (xs ++ x ∷ []) ys
+  first_more [] [] rest x y all is p = cc
+  first_more [] (z ∷ zs) rest x y all is p = let same : y ≡ z = cc in (subst (P x) same p, tt)
+  first_more (w ∷ ws) [] rest x y all is p = absurd all
+  first_more (w ∷ ws) (z ∷ zs) rest x y all is p = (all.0, first_more ws zs rest x y all.1 is p)
+
+  pub first_rest : (xs : List X) (ys rest : List Y) (x : X) (y : Y) → drop (length xs) ys ≡ y ∷ rest
+      → drop (length (xs ++ x ∷ [])) ys ≡ rest
+  first_rest [] [] rest x y is = cc
+  first_rest [] (z ∷ zs) rest x y is = cc
+  first_rest (w ∷ ws) [] rest x y is = cc
+  first_rest (w ∷ ws) (z ∷ zs) rest x y is = first_rest ws zs rest x y is
+
+  pub first_all : (xs : List X) (ys : List Y) → AllFirst P xs ys → drop (length xs) ys ≡ [] → AllBoth P xs ys
+  first_all [] [] all is = tt
+  first_all [] (y ∷ ys) all is = cc
+  first_all (x ∷ xs) [] all is = all
+  first_all (x ∷ xs) (y ∷ ys) all is = (all.0, first_all xs ys all.1 is)
+
+  pub first_names : {Z : Type 0} (f : X → Z) (g : Y → Z) → ((x : X) (y : Y) → P x y → f x ≡ g y) → (xs : List X) (ys : List Y)
+      → AllFirst P xs ys → map f xs ++ map g (drop (length xs) ys) ≡ map g ys
+  first_names f g same [] ys all = refl
+  first_names f g same (x ∷ xs) [] all = absurd all
+  first_names f g same (x ∷ xs) (y ∷ ys) all =
+      ap (λ zs. f x ∷ zs) (first_names f g same xs ys all.1) ∙ ap (λ z. z ∷ map g ys) (same x y all.0)
+
+  pub both_length : (xs : List X) (ys : List Y) → AllBoth P xs ys → length xs ≡ length ys
+  both_length [] [] all = refl
+  both_length [] (y ∷ ys) all = absurd all
+  both_length (x ∷ xs) [] all = absurd all
+  both_length (x ∷ xs) (y ∷ ys) all = ap suc (both_length xs ys all.1)
+
+  pub both_all : (Q : X → Type 0) → ((x : X) (y : Y) → P x y → Q x) → (xs : List X) (ys : List Y) → AllBoth P xs ys → All Q xs
+  both_all Q from [] [] all = All-nil Q
+  both_all Q from [] (y ∷ ys) all = absurd all
+  both_all Q from (x ∷ xs) [] all = absurd all
+  both_all Q from (x ∷ xs) (y ∷ ys) all = All-cons Q x xs (from x y all.0) (both_all Q from xs ys all.1)
+
+-- what the test of a configuration says
+pub config_is : (names : List ℕ) (seats : ℕ) → is_config names seats ≡ true
+    → (0 < length names) × (length names ≤ 16) × (0 < seats) × (seats ≤ 64)
+config_is names seats is = grind (arith, nat_tests)
+
+-- fresh seats are seats of the cache, as they were made
+pub fresh_seats : (n : CacheNames) (seats : List SeatSeen) → AreFresh n.table n.name seats → All (IsOfCache n) seats
+fresh_seats n seats fresh = λ k d less. let f = fresh k d less in (f.1, f.0, f.3, f.4)
+
+-- whether a name is among those of the sources
+pub among_is : {D T : Type 0} (name : ℕ) (sources : List (Source D T))
+    → list_any (λ (s : Source D T). eqb s.name name) sources ≡ is_among name (map (λ (s : Source D T). s.name) sources)
+among_is name [] = refl
+among_is name (s ∷ ss) = ap (λ b. eqb s.name name || b) (among_is name ss)

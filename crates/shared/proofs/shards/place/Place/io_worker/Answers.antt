@@ -1,0 +1,24 @@
+use Rattle.std.proofs.Common.{rules, lit<}
+use Rattle.shared.specs.ShardWorks.{EndsAll}
+use Rattle.shared.proofs.ShardWorking.{given_back, lent, worked}
+use Rattle.shared.proofs.shards.place.Place.io_worker.Goals as goal
+
+pub io_worker_in-requires : goal.io_worker_in-requires
+io_worker_in-requires g c = (
+  lit< tt,
+  (
+    c.in-Some.ensures.ringed,
+    lent g.B.ShardNaming.names c.args.worker.now c.worker.inside.workers.items g.row.K c.in-Some-get_mut.own.now c.worker.view_is
+        (search rules) c.in-Some-get_mut.ensures.value c.requires.workers,
+  ),
+)
+
+pub returns-clause-turn : goal.returns-clause-turn
+returns-clause-turn g c =
+    worked (EndsAll (g.B.ShardNaming.names g.row.K)) c.args.worker.now c.worker.inside.workers.items g.row.K
+    c.in-Some-get_mut.own.now c.io_worker_in.new.worker c.worker.view_is (search rules) c.in-Some-get_mut.ensures.value c.io_worker_in.ensures.turn
+
+pub returns-clause-workers : goal.returns-clause-workers
+returns-clause-workers g c =
+    given_back g.B.ShardNaming.names c.args.worker.now c.worker.inside.workers.items g.row.K c.io_worker_in.new.worker c.worker.view_is
+    (search rules) c.requires.workers c.io_worker_in.ensures.turn.worker
