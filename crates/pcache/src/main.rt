@@ -62,7 +62,11 @@ fn main(rt: HostRuntime) -> ExitCode {
             run_rounds(rt.alloc(), &words, watched, &mut out, &mut rt.stderr())
         }
         Ok(Request::Over(words)) => serve_file(&rt, &words),
-        Ok(Request::Shards(words)) => storm_shards(&rt, &words),
+        Ok(Request::Shards(words)) => {
+            let mut out = Printer::new(rt.alloc(), rt.stdout());
+            let weather = weather(&rt);
+            storm_shards(&rt, rt.alloc(), &words, weather, &mut out, &mut rt.stderr())
+        }
         Ok(Request::Neither) => {
             let _ = say_usage(&mut rt.stderr());
             2
@@ -140,23 +144,21 @@ fn run_threads<R: Threads + Wait + Files<File = File> + Sync, W: Write, E: Write
 }
 
 /// Runs the storm over shards that these words ask for.
-fn storm_shards(rt: &HostRuntime, owned: &[String]) -> u8 {
-    let alloc = rt.alloc();
+fn storm_shards<R: Threads + Wait + Sync, W: Write, E: Write>(
+    rt: &R,
+    alloc: Global,
+    owned: &[String],
+    weather: Weather,
+    out: &mut Printer<W>,
+    err: &mut E,
+) -> u8 {
     let mut words = Vec::new(alloc);
     for word in owned {
         if words.push(word.as_str()).is_err() {
-            return say_stop(&mut rt.stderr(), Stop::Memory);
+            return say_stop(err, Stop::Memory);
         }
     }
-    let mut out = Printer::new(alloc, rt.stdout());
-    run_shards(
-        rt,
-        alloc,
-        &words,
-        weather(rt),
-        &mut out,
-        &mut rt.stderr(),
-    )
+    run_shards(rt, alloc, &words, weather, out, err)
 }
 
 /// Plays the rounds that these words ask for.

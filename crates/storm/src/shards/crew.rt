@@ -195,11 +195,16 @@ fn hand_of<B: ShardNaming, D: BlockDevice>(
     requires { (length own.old ≡ B.shards) × AreWorkers B.names own.old }
     ensures own { (length own.new ≡ B.shards) × AreWorkers B.names own.new }
 {
-    let worker = cache.worker(own, first_of(members)?.seat).ok()?;
-    Some(Hand {
-        worker,
-        of: PhantomData,
-    })
+    match cache.worker(own, first_of(members)?.seat) {
+        Ok(worker) => Some(Hand {
+            worker,
+            of: PhantomData,
+        }),
+        Err(refused) => {
+            drop(refused);
+            None
+        }
+    }
 }
 
 /// Puts the members of these crews to the others. Nothing is answered where memory is wanted.
