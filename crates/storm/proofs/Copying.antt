@@ -5,6 +5,8 @@ use Rattle.blockdev.specs.Device.{Told}
 use Rattle.pc_types.specs.Limits.{Sizes}
 use Rattle.playback.specs.Playing.{AreCopies, IsCopy}
 use Rattle.playback.specs.declared.verdict.Copies.{Copies}
+use Rattle.shared.specs.Keeps.{IsDisk}
+use Rattle.storm.specs.Sharded.{AreFor}
 use Rattle.world.specs.Stepping.{fits}
 
 both : (a b : Bool) → a ≡ true → b ≡ true → (a && b) ≡ true
@@ -22,4 +24,13 @@ pub copies_fit : (g : Sizes) (d : Told) (copies : Copies) (page blocks : ℕ) �
 copies_fit g d copies page blocks c size count same many = (
   copy_fits g d copies.one c.0 (size ∙ sym same) (count ∙ sym many),
   copy_fits g d copies.other c.1 (size ∙ sym same) (count ∙ sym many),
+)
+
+-- the same of a shard
+pub copies_are_for : (g : Sizes) (d : Told) (copies : Copies) → AreCopies d copies → IsDisk g d → AreFor g copies
+copies_are_for g d copies c is = (
+  copy_fits g d copies.one c.0 is.0 is.1,
+  copy_fits g d copies.other c.1 is.0 is.1,
+  c.0.2,
+  c.1.2,
 )

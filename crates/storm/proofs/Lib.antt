@@ -1,2 +1,3 @@
 mod Seating
 mod Copying
+mod Working
