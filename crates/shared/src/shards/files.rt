@@ -223,6 +223,13 @@ impl<B: ShardNaming, D: BlockDevice, T: Trail> ShardedCache<B, D, T> {
         self.open_at(rt, seat, shard, own, append)
     }
 
+    /// The number of the handle's file among those of all shards.
+    pub fn file_of(&self, handle: &ShardHandle) -> FileId
+        ensures { result.0 ≡ number_of B.shards handle.now.shard handle.now.handle.file.0 }
+    {
+        number_of(handle.handle.file(), handle.shard, self.shards)
+    }
+
     /// Opens a shard's own file.
     fn open_at<R: Wait>(
         &self,
