@@ -1,0 +1,138 @@
+//! The end of a row's cache.
+
+ghost use Rattle.std.specs.Prelude.{◌≡◌, All, IfSome, length};
+ghost use Rattle.shared.specs.ShardSeats.{AreSeated};
+ghost use Rattle.shared.specs.ShardWorkers.{AreWorkers};
+
+use crate::caller::{Caller, Tested};
+use crate::gated_trail::GatedTrail;
+use blockdev::ScriptDevice;
+use pc_types::Refusal;
+use shared::shards::close::Closed;
+use shared::shards::naming::ShardNaming;
+use shared::shards::seat::ShardSeat;
+use shared::shards::worker::ShardWorker;
+use std::alloc::Global;
+use std::marker::PhantomData;
+use std::mem::drop;
+use std::sync::Wait;
+use trail::first_odd;
+
+/// What a shard of a row leaves.
+pub(crate) type Left<'a> = Closed<ScriptDevice, GatedTrail<'a>>;
+
+/// The cache's own workers.
+#[derive(Drop)]
+pub(crate) struct Own<B: ShardNaming> {
+    pub(crate) worker: ShardWorker,
+    of: PhantomData<B>,
+    pub ghost count: { length worker ≡ B.shards },
+    pub ghost works: { AreWorkers B.names worker },
+}
+
+impl<B: ShardNaming> Own<B> {
+    pub(crate) fn of(worker: ShardWorker) -> Own<B>
+        requires count { length worker ≡ B.shards }
+        requires works { AreWorkers B.names worker }
+    {
+        Own {
+            worker,
+            of: PhantomData,
+        }
+    }
+}
+
+/// Closes the cache by its callers' seats. Answers whether that went well, and each shard's history is one of plain files.
+pub(crate) fn ends_well<'a, B: ShardNaming, R: Wait>(
+    rt: &R,
+    alloc: Global,
+    cache: Tested<'a, B>,
+    own: Own<B>,
+    seats: Vec<ShardSeat>,
+) -> bool
+    requires { All (AreSeated B.names) seats.items }
+{
+    let Some(left) = closes(rt, cache, own, seats) else {
+        return false;
+    };
+    let is_so = are_plain(alloc, &left);
+    drop(left);
+    is_so
+}
+
+/// What the shards leave where the cache is closed by these seats.
+pub(crate) fn closes<'a, B: ShardNaming, R: Wait>(
+    rt: &R,
+    cache: Tested<'a, B>,
+    own: Own<B>,
+    seats: Vec<ShardSeat>,
+) -> Option<Vec<Left<'a>>>
+    requires { All (AreSeated B.names) seats.items }
+{
+    match cache.close(rt, own.worker, seats) {
+        Ok(left) => Some(left),
+        Err((_, cache, worker, seats)) => {
+            drop(cache);
+            drop(worker);
+            drop(seats);
+            None
+        }
+    }
+}
+
+/// Whether each history is one of plain files.
+pub(crate) fn are_plain(alloc: Global, left: &[Left<'_>]) -> bool {
+    left.iter()
+        .all(|shard| matches!(first_odd(alloc, &shard.trail.trail), Ok(None)))
+}
+
+/// A cache is not closed while a seat is missing, nor where a stranger's seat stands in its place. Cache, workers and seats come back
+/// each time, and with the right seats it is.
+pub(crate) fn closes_late<'a, B: ShardNaming, R: Wait>(
+    rt: &R,
+    alloc: Global,
+    cache: Tested<'a, B>,
+    own: Own<B>,
+    mut seats: Vec<ShardSeat>,
+    stranger: Caller<B>,
+) -> bool
+    requires { All (AreSeated B.names) seats.items }
+{
+    let Some(mut missing) = Caller::last_of(&mut seats) else {
+        return false;
+    };
+    let Some((cache, own, mut seats)) = stays_open(rt, cache, own, seats) else {
+        return false;
+    };
+    let is_open = missing.creates(rt, &cache, 1).is_some();
+    let is_in = stranger.comes_back(&mut seats);
+    let Some((cache, own, mut seats)) = stays_open(rt, cache, own, seats) else {
+        return false;
+    };
+    let is_out = Caller::<B>::last_of(&mut seats).is_some();
+    let is_back = missing.comes_back(&mut seats);
+    ends_well(rt, alloc, cache, own, seats) && is_open && is_in && is_out && is_back
+}
+
+/// What comes back where the cache is not closed by these seats, of which one is wrong.
+fn stays_open<'a, B: ShardNaming, R: Wait>(
+    rt: &R,
+    cache: Tested<'a, B>,
+    own: Own<B>,
+    seats: Vec<ShardSeat>,
+) -> Option<(Tested<'a, B>, Own<B>, Vec<ShardSeat>)>
+    requires { All (AreSeated B.names) seats.items }
+    ensures { IfSome result (λ r. All (AreSeated B.names) r.2.items) }
+{
+    let count = seats.len();
+    match cache.close(rt, own.worker, seats) {
+        Ok(left) => {
+            drop(left);
+            None
+        }
+        Err((refusal, cache, worker, seats)) => {
+            let is_so = refusal == Refusal::Stranger && seats.len() == count;
+            is_so.then_some((cache, Own::of(worker), seats))
+        }
+    }
+}
