@@ -64,7 +64,7 @@ fn stands_in<B: ShardNaming, R: Wait>(
     let second = at(rt, cache, caller, number, 1)?;
     let third = at(rt, cache, caller, number, 2)?;
     let are_apart = first.block != second.block && second.block != third.block;
-    let is_placed = (first.valid, second.valid, third.valid) == (16, 16, 8);
+    let is_placed = (first.valid, second.valid, third.valid) == (16, 16, 16);
     let is_end = at(rt, cache, caller, number, 3).is_none();
     let catalog = cache.catalog(rt, &mut caller.seat, u64::from(shard)).ok()?;
     let is_listed = lists(&catalog, first.block);
