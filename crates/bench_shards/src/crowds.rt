@@ -1,6 +1,7 @@
 //! How many threads read in how many shards, and their times.
 
-ghost use Rattle.std.specs.Prelude.{◌≡◌, ◌<◌, ◌≤◌, ◌*◌, ℕ, All, IfOk, length, vec_len};
+ghost use Rattle.std.specs.Prelude.{◌≡◌, ◌<◌, ◌≤◌, ℕ, All, IfOk, length};
+ghost use Rattle.bench_shards.specs.declared.offsets.TheConstants.{CACHED};
 ghost use Rattle.shared.specs.Keeps.{IsDisk};
 ghost use Rattle.shared.specs.ShardNames.{names_at};
 ghost use Rattle.shared.specs.ShardSeats.{AreSeated};
@@ -50,7 +51,8 @@ impl Crowd {
 
     /// Bytes of each file.
     fn file_size(self) -> u64
-        ensures { 0 < result }
+        ensures some { 0 < result }
+        ensures most { result ≤ CACHED }
     {
         CACHED / self.threads()
     }
@@ -166,10 +168,7 @@ fn time_rounds<B: ShardNaming + Send + Sync, W: Wait + Threads + Clock + Sync>(
     requires { All (AreSeated B.names) seats.old.items }
 {
     let mut readers = make_readers(rt, alloc, cache, seats, crowd)?;
-    let find_all = readers
-        .iter_mut()
-        .all(|reader| reader.finds(rt, cache, Size::Small) && reader.finds(rt, cache, Size::Page));
-    if !find_all {
+    if !find_all(rt, cache, &mut readers) {
         return Err(Fault::Odd);
     }
     for _ in 0..rounds {
@@ -193,18 +192,15 @@ fn make_readers<B: ShardNaming, R: Wait>(
     let mut readers = Vec::new(alloc);
     let mut file = FileId(0);
     for thread in 0..crowd.threads() {
-        let Some(mut seat) = seats.pop() else {
+        let Some(seat) = seats.pop() else {
             return Err(Fault::Odd);
         };
-        let shard = crowd.shard_of(thread);
-        if let Some(shard) = shard {
-            file = create(rt, cache, &mut seat, shard)?;
-        }
         let offsets = Offsets::new(alloc, &mut numbers, crowd.file_size())?;
-        let mut reader = Reader::open(rt, cache, seat, file, offsets)?;
-        if shard.is_some() {
-            reader.fill(rt, cache, crowd.file_size())?;
-        }
+        let (reader, own) = match crowd.shard_of(thread) {
+            Some(shard) => make_reader(rt, cache, seat, shard, offsets, crowd)?,
+            None => (Reader::open(rt, cache, seat, file, offsets)?, file),
+        };
+        file = own;
         if readers.push(reader).is_err() {
             return Err(Fault::Memory);
         }
@@ -212,20 +208,37 @@ fn make_readers<B: ShardNaming, R: Wait>(
     Ok(readers)
 }
 
-/// Makes a file in this shard.
-fn create<B: ShardNaming, R: Wait>(
+/// A reader of a new file in this shard, and the file's number.
+fn make_reader<B: ShardNaming, R: Wait>(
     rt: &R,
     cache: &Sharded<B>,
-    seat: &mut ShardSeat,
+    mut seat: ShardSeat,
     shard: u64,
-) -> Result<FileId, Fault>
-    requires { AreSeated B.names seat.old }
-    ensures { AreSeated B.names seat.new }
+    offsets: Offsets,
+    crowd: Crowd,
+) -> Result<(Reader<B>, FileId), Fault>
+    requires { AreSeated B.names seat }
 {
-    match cache.create_in(rt, seat, shard) {
-        Ok((file, _)) => Ok(file),
-        Err(_) => Err(Fault::Odd),
+    let Ok((file, _)) = cache.create_in(rt, &mut seat, shard) else {
+        return Err(Fault::Odd);
+    };
+    let mut reader = Reader::open(rt, cache, seat, file, offsets)?;
+    reader.fill(rt, cache, crowd.file_size())?;
+    Ok((reader, file))
+}
+
+/// Whether each read of each reader answers what was written there.
+fn find_all<B: ShardNaming, R: Wait>(
+    rt: &R,
+    cache: &Sharded<B>,
+    readers: &mut [Reader<B>],
+) -> bool {
+    for reader in readers.iter_mut() {
+        if !reader.finds(rt, cache, Size::Small) || !reader.finds(rt, cache, Size::Page) {
+            return false;
+        }
     }
+    true
 }
 
 /// Times a round of all readers, each in a thread of its own.
@@ -241,9 +254,12 @@ fn time_round<B: ShardNaming + Send + Sync, W: Wait + Threads + Clock + Sync>(
         return Err(Fault::Odd);
     }
     let start = Instant::now(rt)?;
-    for_each_mut(rt, readers, threads, &|_, reader| {
-        reader.read_round(rt, cache, size)
-    });
+    for_each_mut(
+        rt,
+        readers,
+        threads,
+        &|_, reader| { reader.read_round(rt, cache, size) },
+    );
     let time = start.elapsed(rt)?;
     let mut sum = 0u64;
     for reader in readers.iter() {

@@ -5,7 +5,7 @@ ghost use Rattle.std.specs.Prelude.{◌<◌};
 use crate::copies::time_copies;
 use crate::crowds::{Crowd, Times, time_crowd};
 use crate::offsets::CALLS;
-use bench_threads::reads::{ReadRow, READS, time_reads};
+use bench_threads::reads::{READS, ReadRow, time_reads};
 use bench_timing::{Best, Fault, write_row};
 use std::alloc::Global;
 use std::io::Write;
@@ -129,8 +129,20 @@ fn print_times(rt: &HostRuntime, times: Times, threads: u64, who: &str) -> Resul
 {
     let mut out = rt.stdout();
     let calls = CALLS.saturating_mul(threads);
-    write_row(&mut out, times.small, calls, "pread of 64 bytes, cached, ", who)?;
-    write_row(&mut out, times.page, calls, "pread of 4,096 bytes, cached, ", who)
+    write_row(
+        &mut out,
+        times.small,
+        calls,
+        "pread of 64 bytes, cached, ",
+        who,
+    )?;
+    write_row(
+        &mut out,
+        times.page,
+        calls,
+        "pread of 4,096 bytes, cached, ",
+        who,
+    )
 }
 
 /// Prints the rows of plain copies, and the sum of all answers: what was timed has to be computed.

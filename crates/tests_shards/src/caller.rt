@@ -169,9 +169,7 @@ impl<B: ShardNaming> Caller<B> {
         cache: &Tested<'_, B>,
         file: &mut Opened<B>,
     ) -> bool {
-        cache
-            .fsync(rt, &mut self.seat, &mut file.handle)
-            .is_ok()
+        cache.fsync(rt, &mut self.seat, &mut file.handle).is_ok()
     }
 
     /// Writes the page's number all over it.

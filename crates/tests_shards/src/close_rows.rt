@@ -82,8 +82,7 @@ pub(crate) fn closes<'a, B: ShardNaming, R: Wait>(
 
 /// Whether each history is one of plain files.
 pub(crate) fn are_plain(alloc: Global, left: &[Left<'_>]) -> bool {
-    left.iter()
-        .all(|shard| matches!(first_odd(alloc, &shard.trail.trail), Ok(None)))
+    left.iter().all(|shard| matches!(first_odd(alloc, &shard.trail.trail), Ok(None)))
 }
 
 /// A cache is not closed while a seat is missing, nor where a stranger's seat stands in its place. Cache, workers and seats come back

@@ -1,7 +1,5 @@
 //! What no cache of shards is made of.
 
-ghost use Rattle.std.specs.Prelude.{◌<◌};
-
 use crate::gated_trail::GatedTrail;
 use crate::sources::{FIRST, Given, Plan, geometry, sources};
 use blockdev::ScriptDevice;
@@ -24,19 +22,17 @@ enum Fate {
 fn fate<R: Wait>(
     rt: &R,
     alloc: Global,
-    count: u64,
+    count: u8,
     twice: bool,
     callers: u64,
-) -> Result<Fate, Refusal>
-    requires { count < 100 }
-{
+) -> Result<Fate, Refusal> {
     let geometry = geometry()?;
     let plan = Plan {
         events: 8,
         fails: false,
         twice,
     };
-    let sources = sources(alloc, &geometry, count, FIRST, plan, None)?;
+    let sources = sources(alloc, &geometry, u64::from(count), FIRST, plan, None)?;
     let names = names_of(alloc, &sources)?;
     match ShardParts::make(rt, alloc, &geometry, sources, callers) {
         Ok((parts, seats)) => {

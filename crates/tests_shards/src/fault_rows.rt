@@ -55,9 +55,10 @@ pub(crate) fn tells_of_a_turn<B: ShardNaming, R: Wait>(
     requires { All (AreSeated B.names) seats.old.items }
     ensures { All (AreSeated B.names) seats.new.items }
 {
-    let (Some(mut caller), Some(mut hand)) =
-        (Caller::last_of(seats), Hand::hired(cache, own, seats))
-    else {
+    let (Some(mut caller), Some(mut hand)) = (
+        Caller::last_of(seats),
+        Hand::hired(cache, own, seats),
+    ) else {
         return false;
     };
     let is_told = tells_two(rt, cache, &mut caller, &mut hand);
@@ -86,7 +87,9 @@ fn tells_two<B: ShardNaming, R: Wait>(
     let Some(mut failed) = done.failed else {
         return false;
     };
-    if file.handle.shard() != 0 || other.handle.shard() != 1 || cache.name_of(0) == cache.name_of(1)
+    if file.handle.shard() != 0
+        || other.handle.shard() != 1
+        || cache.name_of(0) == cache.name_of(1)
     {
         return false;
     }

@@ -118,11 +118,11 @@ fn is_nowhere<B: ShardNaming, R: Wait>(
 /// Whether each device has its shard's first page at the shard's block.
 fn have_pages(left: &[Left<'_>], blocks: &[BlockNo]) -> bool {
     left.len() == blocks.len()
-        && left
-            .iter()
-            .zip(blocks)
-            .enumerate()
-            .all(|(shard, (left, block))| has_page(&left.device, *block, shard as u8))
+        && left.iter().zip(blocks).enumerate().all(|(shard, (left, block))| has_page(
+            &left.device,
+            *block,
+            shard as u8,
+        ))
 }
 
 /// Whether the block has the text's first page, with the shard's number in the place of its first byte.
