@@ -59,8 +59,18 @@ fn is_known<B: ShardNaming, R: Wait>(
         && handle.cursor() == 0
 }
 
-/// What is written in this shard is read back, cut, sought and synced.
-pub(crate) fn goes_well<B: ShardNaming, R: Wait>(
+/// What is written in each shard is read back, cut, sought and synced.
+pub(crate) fn goes_well_in_each<B: ShardNaming, R: Wait>(
+    rt: &R,
+    cache: &Tested<'_, B>,
+    caller: &mut Caller<B>,
+) -> bool {
+    goes_well(rt, cache, caller, 0)
+        && goes_well(rt, cache, caller, 1)
+        && goes_well(rt, cache, caller, 2)
+}
+
+fn goes_well<B: ShardNaming, R: Wait>(
     rt: &R,
     cache: &Tested<'_, B>,
     caller: &mut Caller<B>,

@@ -1,16 +1,16 @@
 //! A write that the device of shard 0 fails, and who is told of it.
 
-ghost use Rattle.std.specs.Prelude.{◌<◌, All};
+ghost use Rattle.std.specs.Prelude.{◌≡◌, ◌<◌, All};
 ghost use Rattle.shared.specs.ShardSeats.{AreSeated};
+ghost use Rattle.shared.specs.Workers.{IsOwnFailure};
 
 use crate::caller::{Caller, Opened, Tested};
 use crate::close_rows::Own;
-use crate::worker_rows::{Hand, Open};
+use crate::worker_rows::Hand;
 use pc_types::{ErrCode, Refusal};
 use shared::handle::FailedWrite;
 use shared::shards::naming::ShardNaming;
 use shared::shards::seat::ShardSeat;
-use shared::turns::Flushed;
 use std::sync::Wait;
 
 /// An fsync tells of the write that failed, once, and by the handle of that file alone: the next one succeeds, and so does one in another
@@ -63,7 +63,8 @@ pub(crate) fn tells_of_a_turn<B: ShardNaming, R: Wait>(
     };
     let is_told = tells_two(rt, cache, &mut caller, &mut hand);
     let is_back = hand.comes_back(seats);
-    caller.comes_back(seats) && is_back && is_told
+    let is_caller_back = caller.comes_back(seats);
+    is_told && is_back && is_caller_back
 }
 
 fn tells_two<B: ShardNaming, R: Wait>(
@@ -76,27 +77,37 @@ fn tells_two<B: ShardNaming, R: Wait>(
     else {
         return false;
     };
-    if !caller.writes_page(rt, cache, &file, 0) || cache.shards() < 2 {
+    if !caller.writes_page(rt, cache, &file, 0) || cache.shards() == 0 {
         return false;
     }
-    let begun = cache.flusher_turn(rt, &Open, 0, &mut hand.worker);
-    let is_begun = matches!(begun, Ok(Flushed::Pushed(_, _)));
-    let Some(done) = cache.io_turn(rt, &Open, 0, &mut hand.worker) else {
+    let is_begun = hand.begins(rt, cache, 0);
+    let Some(mut failed) = hand.ends(rt, cache, 0) else {
         return false;
     };
-    let Some(mut failed) = done.failed else {
-        return false;
-    };
-    if file.handle.shard() != 0
-        || other.handle.shard() != 1
-        || cache.name_of(0) == cache.name_of(1)
-    {
-        return false;
-    }
-    let is_heard = cache.tell_error(&mut file.handle, &mut failed) == Ok(());
-    let is_not_refused = cache.tell_error(&mut other.handle, &mut failed) == Ok(());
+    let is_heard = tells(cache, &mut file, &mut failed, 0);
+    let is_not_refused = tells(cache, &mut other, &mut failed, 0);
     let is_told = polls(cache, &mut file) == Ok(Some(ErrCode::IO));
     let is_told_once = polls(cache, &mut file) == Ok(None);
     let is_silent = polls(cache, &mut other) == Ok(None);
     is_begun && is_heard && is_not_refused && is_told && is_told_once && is_silent
+}
+
+/// Tells the handle of the write that failed in this shard. Answers whether that is not refused. No two shards have one name.
+fn tells<B: ShardNaming>(
+    cache: &Tested<'_, B>,
+    file: &mut Opened<B>,
+    failed: &mut FailedWrite,
+    shard: u64,
+) -> bool
+    requires there { shard < B.shards }
+    requires failed { IsOwnFailure (B.names shard).name (B.names shard).board failed.old }
+    ensures { failed.new ≡ failed.old }
+{
+    let own = file.handle.shard();
+    let is_there = own < cache.shards();
+    let is_one = own != shard && cache.name_of(own) == cache.name_of(shard);
+    if !is_there || is_one {
+        return false;
+    }
+    cache.tell_error(&mut file.handle, failed) == Ok(())
 }

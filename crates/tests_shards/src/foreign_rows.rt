@@ -325,7 +325,10 @@ fn own_parts<'a, R: Wait>(rt: &R, alloc: Global) -> Option<Made<'a>>
 {
     let geometry = geometry().ok()?;
     let sources = sources(alloc, &geometry, SHARDS, FIRST, Plan::SHORT, None).ok()?;
-    ShardParts::make(rt, alloc, &geometry, sources, 2).ok()
+    match ShardParts::make(rt, alloc, &geometry, sources, 2) {
+        Ok(made) => Some(made),
+        Err(_) => None,
+    }
 }
 
 /// The parts of another cache, of so many shards, and two seats.
@@ -336,7 +339,10 @@ fn other_parts<'a, R: Wait>(rt: &R, alloc: Global, shards: u64) -> Option<Made<'
 {
     let geometry = geometry().ok()?;
     let sources = sources(alloc, &geometry, shards, OTHERS, Plan::SHORT, None).ok()?;
-    ShardParts::make(rt, alloc, &geometry, sources, 2).ok()
+    match ShardParts::make(rt, alloc, &geometry, sources, 2) {
+        Ok(made) => Some(made),
+        Err(_) => None,
+    }
 }
 
 /// Has what another cache gave refused by a new one.

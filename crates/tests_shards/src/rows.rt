@@ -5,7 +5,7 @@ ghost use Rattle.std.specs.Prelude.{◌≡◌, ◌<◌, ℕ, All, length};
 ghost use Rattle.shared.specs.ShardNames.{names_at};
 ghost use Rattle.shared.specs.ShardSeats.{AreSeated};
 
-use crate::byte_rows::{goes_well, has_numbers, is_seen};
+use crate::byte_rows::{goes_well_in_each, has_numbers, is_seen};
 use crate::caller::{Caller, Tested};
 use crate::close_rows::{Own, ends_well};
 use crate::fault_rows::{tells_at_a_sync, tells_of_a_turn};
@@ -78,13 +78,30 @@ fn runs<'a, B: ShardNaming + Send + Sync, R: Threads + Wait + Sync>(
         return false;
     };
     let mut own = Own::of(worker);
-    let is_so = match row {
-        Row::Stands => return stands(rt, alloc, cache, own, seats),
-        Row::KeepUp => keep_up(rt, &cache, &mut own, &mut seats),
-        Row::TellsOfATurn => tells_of_a_turn(rt, &cache, &mut own, &mut seats),
-        _ => by_two(rt, &cache, turnstile, &mut seats, row),
-    };
+    if matches!(row, Row::Stands) {
+        return stands(rt, alloc, cache, own, seats);
+    }
+    let is_so = plays(rt, &cache, turnstile, &mut own, &mut seats, row);
     ends_well(rt, alloc, cache, own, seats) && is_so
+}
+
+/// Runs the row. The seats come back.
+fn plays<B: ShardNaming + Send + Sync, R: Threads + Wait + Sync>(
+    rt: &R,
+    cache: &Tested<'_, B>,
+    turnstile: &Turnstile,
+    own: &mut Own<B>,
+    seats: &mut Vec<ShardSeat>,
+    row: Row,
+) -> bool
+    requires { All (AreSeated B.names) seats.old.items }
+    ensures { All (AreSeated B.names) seats.new.items }
+{
+    match row {
+        Row::KeepUp => keep_up(rt, cache, own, seats),
+        Row::TellsOfATurn => tells_of_a_turn(rt, cache, own, seats),
+        _ => by_two(rt, cache, turnstile, seats, row),
+    }
 }
 
 /// Runs the row by two callers, whose seats come back.
@@ -109,10 +126,11 @@ fn by_two<B: ShardNaming + Send + Sync, R: Threads + Wait + Sync>(
         Row::ShareAFile => share_a_file(rt, cache, &mut first, &mut second),
         Row::TellsAtASync => tells_at_a_sync(rt, cache, &mut first),
         Row::WorkApart => work_apart(rt, cache, &mut first, &mut second),
-        _ => (0..SHARDS).all(|shard| goes_well(rt, cache, &mut first, shard)),
+        _ => goes_well_in_each(rt, cache, &mut first),
     };
     let is_back = first.comes_back(seats);
-    second.comes_back(seats) && is_back && is_so
+    let is_other_back = second.comes_back(seats);
+    is_back && is_other_back && is_so
 }
 
 /// Runs a row over a new cache.

@@ -4,7 +4,7 @@ ghost use Rattle.std.specs.Prelude.{◌<◌, All};
 ghost use Rattle.shared.specs.ShardSeats.{AreSeated};
 
 use crate::byte_rows::TEXT;
-use crate::caller::{Caller, Tested};
+use crate::caller::{Caller, Opened, Tested};
 use crate::close_rows::{Left, Own, are_plain, closes};
 use crate::sources::SHARDS;
 use blockdev::{BlockDevice, ScriptDevice};
@@ -59,6 +59,7 @@ fn stands_in<B: ShardNaming, R: Wait>(
     caller.writes(rt, cache, &file, 0, TEXT)?;
     caller.writes(rt, cache, &file, 0, &[shard])?;
     let number = cache.file_of(&file.handle);
+    let is_part_synced = syncs_a_page(rt, cache, caller, &mut file);
     let is_synced = caller.syncs(rt, cache, &mut file);
     let first = at(rt, cache, caller, number, 0)?;
     let second = at(rt, cache, caller, number, 1)?;
@@ -68,7 +69,26 @@ fn stands_in<B: ShardNaming, R: Wait>(
     let is_end = at(rt, cache, caller, number, 3).is_none();
     let catalog = cache.catalog(rt, &mut caller.seat, u64::from(shard)).ok()?;
     let is_listed = lists(&catalog, first.block);
-    (is_synced && are_apart && is_placed && is_end && is_listed).then_some(first.block)
+    (is_part_synced && is_synced && are_apart && is_placed && is_end && is_listed).then_some(
+        first.block,
+    )
+}
+
+/// Syncs the first page alone: the next one has no valid byte on the device yet.
+fn syncs_a_page<B: ShardNaming, R: Wait>(
+    rt: &R,
+    cache: &Tested<'_, B>,
+    caller: &mut Caller<B>,
+    file: &mut Opened<B>,
+) -> bool {
+    let page = PageIndex(0);
+    let number = cache.file_of(&file.handle);
+    let synced = cache.fsync_range(rt, &mut caller.seat, &mut file.handle, page, page);
+    let first = at(rt, cache, caller, number, 0);
+    let second = at(rt, cache, caller, number, 1);
+    synced.is_ok()
+        && matches!(first, Some(Placed { valid: 16, .. }))
+        && !matches!(second, Some(Placed { valid: 1.., .. }))
 }
 
 /// Where the page of the file stands.

@@ -3,14 +3,16 @@
 ghost use Rattle.std.specs.Prelude.{◌≡◌, ◌<◌, All, IfSome, length, map};
 ghost use Rattle.shared.specs.ShardSeats.{AreSeated};
 ghost use Rattle.shared.specs.ShardWorkers.{AreWorkers};
-ghost use Rattle.shared.specs.Workers.{seat_of};
+ghost use Rattle.shared.specs.Workers.{IsOwnFailure, seat_of};
 
 use crate::caller::{Caller, Opened, Tested};
 use crate::close_rows::Own;
 use blockdev::Gate;
+use shared::handle::FailedWrite;
 use shared::shards::naming::ShardNaming;
 use shared::shards::seat::ShardSeat;
 use shared::shards::worker::ShardWorker;
+use shared::turns::Flushed;
 use std::marker::PhantomData;
 use std::sync::Wait;
 use std::thread;
@@ -73,6 +75,28 @@ impl<B: ShardNaming> Hand<B> {
         ensures { All (AreSeated B.names) seats.new.items }
     {
         seats.push(self.worker.into_seat()).is_ok()
+    }
+
+    /// Begins to write a page of the shard. Answers whether the job lies in the shard's ring.
+    pub(crate) fn begins<R: Wait>(&mut self, rt: &R, cache: &Tested<'_, B>, shard: u64) -> bool
+        requires { shard < B.shards }
+    {
+        let begun = cache.flusher_turn(rt, &Open, shard, &mut self.worker);
+        matches!(begun, Ok(Flushed::Pushed(_, _)))
+    }
+
+    /// Ends a write of the shard. Answers its failure, where it failed.
+    pub(crate) fn ends<R: Wait>(
+        &mut self,
+        rt: &R,
+        cache: &Tested<'_, B>,
+        shard: u64,
+    ) -> Option<FailedWrite>
+        requires { shard < B.shards }
+        ensures { IfSome result (IsOwnFailure (B.names shard).name (B.names shard).board) }
+    {
+        let done = cache.io_turn(rt, &Open, shard, &mut self.worker)?;
+        done.failed
     }
 
     /// Carries out the shard's jobs, till it is told to stop.
@@ -145,7 +169,8 @@ impl<B: ShardNaming> Crew<B> {
         } = self;
         let first = io_worker.comes_back(seats);
         let second = flusher.comes_back(seats);
-        evictor.comes_back(seats) && first && second
+        let third = evictor.comes_back(seats);
+        first && second && third
     }
 }
 
@@ -218,9 +243,11 @@ pub(crate) fn keep_up<B: ShardNaming + Send + Sync, R: Threads + Wait + Sync>(
         || crews_work(rt, cache, &mut one, &mut other),
         || write_and_stop(rt, cache, &mut first, &mut second),
     );
-    let are_back = one.comes_back(seats) && other.comes_back(seats);
+    let is_one_back = one.comes_back(seats);
+    let is_other_back = other.comes_back(seats);
     let is_first_back = first.comes_back(seats);
-    second.comes_back(seats) && is_first_back && are_back && is_kept
+    let is_second_back = second.comes_back(seats);
+    is_kept && is_one_back && is_other_back && is_first_back && is_second_back
 }
 
 /// The workers of two shards, till they are told to stop.
