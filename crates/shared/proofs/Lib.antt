@@ -17,6 +17,7 @@ pub mod Sparing
 pub mod Wanting
 pub mod Carrying
 pub mod Settling
+pub mod ShardBack
 pub mod ShardHalves
 pub mod ShardPlaces
 pub mod ShardRowing

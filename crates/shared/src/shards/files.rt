@@ -64,6 +64,7 @@ impl<B: ShardNaming, D: BlockDevice, T: Trail, const K: u64> SharedCache<Shard<B
         ensures goes { Goes own.old own.new }
         ensures foreign { own.old.name ≢ (B.names K).name → (result ≡ Err (record { refusal = Stranger; slip = None }, handle)) × (own.new ≡ own.old) }
         ensures call { own.old.name ≡ (B.names K).name → Closes (B.names K) handle result own.old own.new }
+        ensures back { IfErr result (λ d. d.1 ≡ handle) }
     {
         self.close_handle(rt, own, handle)
     }
@@ -122,7 +123,7 @@ impl<B: ShardNaming, D: BlockDevice, T: Trail, const K: u64> Place<B, D, T, K> {
     }
 
     /// Closes a handle of this shard.
-    #[tactic(auto, using(crate::proofs::ShardSeated::seated_on))]
+    #[tactic(auto, using(crate::proofs::ShardSeated::seated_on, crate::proofs::ShardBack::comes_back))]
     pub(crate) fn close_handle<R: Wait>(
         &self,
         rt: &R,
@@ -136,6 +137,7 @@ impl<B: ShardNaming, D: BlockDevice, T: Trail, const K: u64> Place<B, D, T, K> {
         ensures others { OnlyAt K seat.old seat.new }
         ensures seated { AreSeated B.names seat.new }
         ensures call { K < B.shards → is_of (B.names K).name seat.old K ≡ true → Closes (B.names K) handle.handle (closed_in result) (part seat.old K) (part seat.new K) }
+        ensures back { IfErr result (λ d. d.1 ≡ handle) }
     {
         let Some(cache) = self.cache() else {
             return Err((without_slip(Refusal::BadHandle), handle));
@@ -270,6 +272,7 @@ impl<B: ShardNaming, D: BlockDevice, T: Trail> ShardedCache<B, D, T> {
         ensures others { OnlyAt handle.shard seat.old seat.new }
         ensures seated { AreSeated B.names seat.new }
         ensures call { handle.shard < B.shards → is_of (B.names handle.shard).name seat.old handle.shard ≡ true → Closes (B.names handle.shard) handle.handle (closed_in result) (part seat.old handle.shard) (part seat.new handle.shard) }
+        ensures back { IfErr result (λ d. d.1 ≡ handle) }
     {
         let shard = handle.shard;
         at_shard!(
