@@ -19,7 +19,7 @@ enum Fate {
 }
 
 /// What comes of so many sources, of which the last has the name of the first where `twice` says so, and so many callers.
-fn fate<R: Wait>(
+fn fate_of<R: Wait>(
     rt: &R,
     alloc: Global,
     count: u8,
@@ -84,7 +84,7 @@ fn a_cache_has_1_to_16_shards_of_different_names_and_1_to_64_callers(
         (3, false, 0, Fate::Refused),
         (3, false, 65, Fate::Refused),
     ] {
-        let fate = fate(&rt, rt.alloc(), count, twice, callers)?;
+        let fate = fate_of(&rt, rt.alloc(), count, twice, callers)?;
         assert!(&rt; fate == wanted, "{count} sources, {callers} callers");
     }
     Ok(())
