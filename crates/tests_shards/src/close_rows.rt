@@ -13,7 +13,7 @@ use shared::shards::naming::ShardNaming;
 use shared::shards::seat::ShardSeat;
 use shared::shards::worker::ShardWorker;
 use std::alloc::Global;
-use std::marker::PhantomData;
+use std::marker::{Model, PhantomData};
 use std::mem::drop;
 use std::sync::Wait;
 use trail::first_odd;
@@ -26,8 +26,18 @@ pub(crate) type Left<'a> = Closed<ScriptDevice, GatedTrail<'a>>;
 pub(crate) struct Own<B: ShardNaming> {
     pub(crate) worker: ShardWorker,
     of: PhantomData<B>,
-    pub ghost count: { length worker ≡ B.shards },
-    pub ghost works: { AreWorkers B.names worker },
+}
+
+impl<B: ShardNaming> Model for Own<B> {
+    ghost use Rattle.std.specs.Prelude.{◌≡◌, List, length};
+    ghost use Rattle.shared.specs.ShardWorkers.{AreWorkers};
+    ghost use Rattle.shared.specs.declared.worker.Worker.{Worker};
+
+    ghost Value = { List Worker };
+
+    ghost view = { λ o. o.worker };
+
+    ghost invariant = { λ o. (length o.worker ≡ B.shards) × AreWorkers B.names o.worker };
 }
 
 impl<B: ShardNaming> Own<B> {

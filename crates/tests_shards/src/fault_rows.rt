@@ -38,6 +38,7 @@ pub(crate) fn tells_at_a_sync<B: ShardNaming, R: Wait>(
 }
 
 /// What the handle is told.
+#[tactic(auto, using(crate::proofs::Told::polled_came))]
 fn polls<B: ShardNaming>(
     cache: &Tested<'_, B>,
     file: &mut Opened<B>,
@@ -93,6 +94,7 @@ fn tells_two<B: ShardNaming, R: Wait>(
 }
 
 /// Tells the handle of the write that failed in this shard. Answers whether that is not refused. No two shards have one name.
+#[tactic(auto, using(crate::proofs::Told::told_came))]
 fn tells<B: ShardNaming>(
     cache: &Tested<'_, B>,
     file: &mut Opened<B>,

@@ -82,6 +82,7 @@ fn opens_two<B: ShardNaming, R: Wait>(
 }
 
 /// Makes a cache of the parts, and has a stranger and what is foreign refused.
+#[tactic(auto, using(crate::proofs::Strangers::strange_seated))]
 fn refuses_beside<'a, B: ShardNaming, R: Wait>(
     rt: &R,
     alloc: Global,
@@ -111,6 +112,7 @@ fn refuses_beside<'a, B: ShardNaming, R: Wait>(
 }
 
 /// Makes a cache of the parts, and closes it once a seat was missing, and once a stranger's stood in its place.
+#[tactic(auto, using(crate::proofs::Strangers::strange_seated))]
 fn closes_beside<'a, B: ShardNaming, R: Wait>(
     rt: &R,
     alloc: Global,
@@ -284,6 +286,7 @@ fn syncs_nothing<B: ShardNaming, R: Wait>(
 }
 
 /// Whether the handle is not told of failed writes.
+#[tactic(auto, using(crate::proofs::Told::polled_came))]
 fn hears_not<B: ShardNaming>(cache: &Tested<'_, B>, file: &mut Opened<B>) -> bool {
     cache.poll_error(&mut file.handle) == Err(Refusal::BadHandle)
 }

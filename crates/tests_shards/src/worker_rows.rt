@@ -1,9 +1,8 @@
 //! Rows with workers of two shards.
 
-ghost use Rattle.std.specs.Prelude.{◌≡◌, ◌<◌, All, IfSome, length, map};
+ghost use Rattle.std.specs.Prelude.{◌<◌, All, IfSome};
 ghost use Rattle.shared.specs.ShardSeats.{AreSeated};
-ghost use Rattle.shared.specs.ShardWorkers.{AreWorkers};
-ghost use Rattle.shared.specs.Workers.{IsOwnFailure, seat_of};
+ghost use Rattle.shared.specs.Workers.{IsOwnFailure};
 
 use crate::caller::{Caller, Opened, Tested};
 use crate::close_rows::Own;
@@ -13,7 +12,7 @@ use shared::shards::naming::ShardNaming;
 use shared::shards::seat::ShardSeat;
 use shared::shards::worker::ShardWorker;
 use shared::turns::Flushed;
-use std::marker::PhantomData;
+use std::marker::{Model, PhantomData};
 use std::sync::Wait;
 use std::thread;
 use std::thread::Threads;
@@ -44,9 +43,20 @@ impl Gate for Open {
 pub(crate) struct Hand<B: ShardNaming> {
     pub(crate) worker: ShardWorker,
     of: PhantomData<B>,
-    pub ghost count: { length worker ≡ B.shards },
-    pub ghost works: { AreWorkers B.names worker },
-    pub ghost seated: { AreSeated B.names (map seat_of worker) },
+}
+
+impl<B: ShardNaming> Model for Hand<B> {
+    ghost use Rattle.std.specs.Prelude.{◌≡◌, List, length, map};
+    ghost use Rattle.shared.specs.ShardSeats.{AreSeated};
+    ghost use Rattle.shared.specs.ShardWorkers.{AreWorkers};
+    ghost use Rattle.shared.specs.Workers.{seat_of};
+    ghost use Rattle.shared.specs.declared.worker.Worker.{Worker};
+
+    ghost Value = { List Worker };
+
+    ghost view = { λ h. h.worker };
+
+    ghost invariant = { λ h. (length h.worker ≡ B.shards) × AreWorkers B.names h.worker × AreSeated B.names (map seat_of h.worker) };
 }
 
 impl<B: ShardNaming> Hand<B> {
@@ -78,6 +88,7 @@ impl<B: ShardNaming> Hand<B> {
     }
 
     /// Begins to write a page of the shard. Answers whether the job lies in the shard's ring.
+    #[tactic(auto, using(crate::proofs::Hands::begun_seated))]
     pub(crate) fn begins<R: Wait>(&mut self, rt: &R, cache: &Tested<'_, B>, shard: u64) -> bool
         requires { shard < B.shards }
     {
@@ -86,6 +97,7 @@ impl<B: ShardNaming> Hand<B> {
     }
 
     /// Ends a write of the shard. Answers its failure, where it failed.
+    #[tactic(auto, using(crate::proofs::Hands::ended_seated, crate::proofs::Hands::own_failed))]
     pub(crate) fn ends<R: Wait>(
         &mut self,
         rt: &R,
@@ -100,6 +112,7 @@ impl<B: ShardNaming> Hand<B> {
     }
 
     /// Carries out the shard's jobs, till it is told to stop.
+    #[tactic(auto, using(crate::proofs::Hands::io_seated))]
     fn carries_out<R: Wait>(&mut self, rt: &R, cache: &Tested<'_, B>, shard: u64)
         requires { shard < B.shards }
     {
@@ -107,6 +120,7 @@ impl<B: ShardNaming> Hand<B> {
     }
 
     /// Writes the shard's pages back, till it is told to stop.
+    #[tactic(auto, using(crate::proofs::Hands::flusher_seated))]
     fn writes_back<R: Wait>(&mut self, rt: &R, cache: &Tested<'_, B>, shard: u64)
         requires { shard < B.shards }
     {
@@ -114,6 +128,7 @@ impl<B: ShardNaming> Hand<B> {
     }
 
     /// Lets the shard's pages go, till it is told to stop.
+    #[tactic(auto, using(crate::proofs::Hands::evictor_seated))]
     fn lets_go<R: Wait>(&mut self, rt: &R, cache: &Tested<'_, B>, shard: u64)
         requires { shard < B.shards }
     {
