@@ -1,9 +1,9 @@
 -- The parts of the caches of shards, made one after another.
-use Rattle.std.proofs.Common.{◌≡◌, ◌<◌, ◌≤◌, ◌+◌, ◌++◌, ◌∷◌, [], ◌∙◌, ℕ, true, List, length, drop, map, refl, subst, sym, ap, arith, suc}
-use Rattle.std.specs.Prelude.{All, eqb, ◌||◌}
+use Rattle.std.proofs.Common.{◌≡◌, ◌<◌, ◌≤◌, ◌+◌, ◌++◌, ◌∷◌, [], ◌∙◌, ℕ, true, false, List, length, drop, map, refl, subst, sym, ap, arith, suc, slice_index_or, Result, Ok, Err}
+use Rattle.std.specs.Prelude.{All, OnOk, eqb, is_err, ◌||◌}
 use Rattle.std.specs.List.{list_any}
 use Rattle.std.proofs.lemmas.Bool.Decides.{nat_tests}
-use Rattle.std.proofs.lemmas.List.Elements.{All-nil, All-cons}
+use Rattle.std.proofs.lemmas.List.Elements.{All-nil, All-cons, All-rest}
 use Rattle.blockdev.specs.Device.{Told}
 
 use Rattle.shared.specs.ShardConfigs.{are_distinct, is_among, is_config}
@@ -75,3 +75,28 @@ pub among_is : {D T : Type 0} (name : ℕ) (sources : List (Source D T))
     → list_any (λ (s : Source D T). eqb s.name name) sources ≡ is_among name (map (λ (s : Source D T). s.name) sources)
 among_is name [] = refl
 among_is name (s ∷ ss) = ap (λ b. eqb s.name name || b) (among_is name ss)
+
+-- ---- one more of them is made
+
+-- the first is taken, and the others are left
+pub head_is : {X : Type 0} (xs : List X) (x : X) → 0 < length xs → x ≡ slice_index_or xs 0 x → xs ≡ x ∷ drop 1 xs
+head_is [] x less is = absurd (omega (arith, less))
+head_is (y ∷ ys) x less is = ap (λ z. z ∷ ys) (sym is)
+
+pub first_has : {X : Type 0} (xs : List X) (x : X) → 0 < length xs → x ≡ slice_index_or xs 0 x → (P : X → Type 0) → All P xs → P x
+first_has xs x less is P all = subst P (sym is) (all 0 x less)
+
+pub rest_all : {X : Type 0} (xs ys : List X) (x : X) → ys ≡ x ∷ xs → (P : X → Type 0) → All P ys → All P xs
+rest_all xs ys x is P all = All-rest P x xs ys is all
+
+pub ok_then : {A E : Type 0} (r : Result A E) (P : Type 0) → is_err r ≡ false → OnOk r P → P
+ok_then (Ok x) P ok p = p
+ok_then (Err e) P ok p = cc
+
+-- what was made and what is left have the names of the sources
+pub names_back : {D T : Type 0} (told : D → Told) (whole : T → Room) (sizes : Sizes) (callers : ℕ) (made : List CacheNames)
+    (rest all : List (Source D T)) → AllFirst (Made told whole sizes callers) made all → rest ≡ drop (length made) all
+    → map (λ (n : CacheNames). n.name) made ++ map (λ (s : Source D T). s.name) rest ≡ map (λ (s : Source D T). s.name) all
+names_back {D} {T} told whole sizes callers made rest all first is =
+    ap (λ (xs : List (Source D T)). map (λ (n : CacheNames). n.name) made ++ map (λ (s : Source D T). s.name) xs) is
+    ∙ first_names (Made told whole sizes callers) (λ (n : CacheNames). n.name) (λ (s : Source D T). s.name) (λ n s m. m.named) made all first

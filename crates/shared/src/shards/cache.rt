@@ -1,9 +1,9 @@
 //! A cache of shards.
 
 ghost use Rattle.std.specs.Bool.{OnFalse, OnTrue};
-ghost use Rattle.std.specs.Prelude.{◌≡◌, ◌<◌, ◌≤◌, ◌+◌, [], ℕ, IfErr, IfOk, length, vec_capacity, vec_len};
+ghost use Rattle.std.specs.Prelude.{◌≡◌, ◌<◌, ◌≤◌, ◌+◌, [], ℕ, IfErr, IfOk, length, true, vec_capacity, vec_len};
 ghost use Rattle.shared.specs.ShardNames.{names_at};
-ghost use Rattle.shared.specs.ShardSeats.{IsSeated};
+ghost use Rattle.shared.specs.ShardSeats.{IsSeated, is_of};
 ghost use Rattle.shared.specs.ShardWorkers.{AreWorkers};
 
 use crate::cache::SharedCache;
@@ -147,8 +147,20 @@ impl<B: ShardNaming, D: BlockDevice, T: Trail> ShardedCache<B, D, T> {
         ensures yes { OnTrue result (IsSeated B.shards B.names seat.now) }
         ensures no { OnFalse result (IsSeated B.shards B.names seat.now → ⊥) }
     {
-        seat.seats.len() as u64 == self.shards
-            && (0..self.shards).all(|shard| seat.is_of(self.name_of(shard), shard))
+        self.seats_each(seat) && seat.seats.len() as u64 == self.shards
+    }
+
+    /// Whether the caller has a seat at each shard, and maybe more.
+    fn seats_each(&self, seat: &ShardSeat) -> bool
+        ensures yes { OnTrue result ((k : ℕ) → k < B.shards → is_of (B.names k).name seat.now k ≡ true) }
+        ensures no { OnFalse result (((k : ℕ) → k < B.shards → is_of (B.names k).name seat.now k ≡ true) → ⊥) }
+    {
+        for shard in 0..self.shards {
+            if !seat.is_of(self.name_of(shard), shard) {
+                return false;
+            }
+        }
+        true
     }
 
     /// The name of a shard's cache, or 0 where there is no such shard.

@@ -5,14 +5,14 @@ use Rattle.shared.specs.ShardSeats.{AreOf}
 use Rattle.shared.proofs.ShardMaking.{AllFirst, Made}
 use Rattle.shared.proofs.shards.parts.make_all.Given as goal
 
-abbrev pub invariant-loop-rt : goal.invariant-loop-rt
-invariant-loop-rt g l =
-    AllFirst (Made g.D.BlockDevice.told g.T.Trail.whole l.geometry.now (vec_len l.fn.seats)) l.made.items l.fn.left.items
+abbrev pub invariant-loop-alloc : goal.invariant-loop-alloc
+invariant-loop-alloc g l =
+    AllFirst (Made g.D.BlockDevice.told g.T.Trail.whole l.geometry (vec_len l.fn.seats)) l.made.items l.fn.left.items
     × (l.left.items ≡ drop (vec_len l.made) l.fn.left.items)
     × (vec_len l.made + vec_len l.left ≤ vec_capacity l.made)
     × (vec_len l.seats ≡ vec_len l.fn.seats)
     × All (AreOf l.made.items) l.seats.items
-    × All (λ s. IsDisk l.geometry.now (g.D.BlockDevice.told s.device)) l.left.items
+    × All (λ s. IsDisk l.geometry (g.D.BlockDevice.told s.device)) l.left.items
 
-abbrev pub decreases-loop-rt : goal.decreases-loop-rt
-decreases-loop-rt g l = vec_len l.left
+abbrev pub decreases-loop-alloc : goal.decreases-loop-alloc
+decreases-loop-alloc g l = vec_len l.left
