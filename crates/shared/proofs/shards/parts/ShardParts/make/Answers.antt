@@ -1,0 +1,39 @@
+use Rattle.std.proofs.Common.{arith, ap, sym, subst, ◌∙◌, ◌≡◌, ◌<◌, ◌≤◌, ◌+◌, true, length, map, vec_len}
+use Rattle.std.proofs.lemmas.List.{length-map}
+use Rattle.shared.specs.ShardConfigs.{is_config}
+use Rattle.shared.specs.ShardNames.{CacheNames}
+use Rattle.shared.specs.ShardParts.{AllBoth}
+use Rattle.shared.specs.declared.shards.parts.Source.{Source}
+use Rattle.shared.proofs.ShardMaking.{Made, both_all, both_length, config_is}
+use Rattle.shared.proofs.shards.parts.ShardParts.make.Goals as goal
+
+pub make_all-requires-clause-callers : goal.make_all-requires-clause-callers
+make_all-requires-clause-callers g c =
+    let ok : is_config (map (λ (s : Source g.row.D.Denot g.row.T.Denot). s.name) c.args.sources.items) c.args.callers ≡ true = cc in
+    let is = config_is (map (λ (s : Source g.row.D.Denot g.row.T.Denot). s.name) c.args.sources.items) c.args.callers ok in
+    subst (λ n. (0 < n) × (n ≤ 64)) (sym c.in-Ok-without_shards.ensures.len) (is.2, is.3)
+
+pub returns-clause-made : goal.returns-clause-made
+returns-clause-made g c =
+    subst (λ n. AllBoth (Made g.D.BlockDevice.told g.T.Trail.whole c.args.geometry.now n) c.in_ok-parts.parts.items c.args.sources.items)
+    c.in-Ok-without_shards.ensures.len c.in_ok-parts.ensures.made
+
+pub returns-in_err-parts-clause-refused : goal.returns-in_err-parts-clause-refused
+returns-in_err-parts-clause-refused g c = ?
+
+pub invariant_of-result : goal.invariant_of-result
+invariant_of-result g c =
+    let ok : is_config (map (λ (s : Source g.row.D.Denot g.row.T.Denot). s.name) c.args.sources.items) c.args.callers ≡ true = cc in
+    let is = config_is (map (λ (s : Source g.row.D.Denot g.row.T.Denot). s.name) c.args.sources.items) c.args.callers ok in
+    let made : AllBoth (Made g.D.BlockDevice.told g.T.Trail.whole c.args.geometry.now c.args.callers) c.in_ok-parts.parts.items c.args.sources.items =
+    subst (λ n. AllBoth (Made g.D.BlockDevice.told g.T.Trail.whole c.args.geometry.now n) c.in_ok-parts.parts.items c.args.sources.items)
+    c.in-Ok-without_shards.ensures.len c.in_ok-parts.ensures.made in
+    let long : vec_len c.in_ok-parts.parts ≡ length (map (λ (s : Source g.row.D.Denot g.row.T.Denot). s.name) c.args.sources.items) =
+    c.in_ok-parts.parts.ok.0
+    ∙ both_length (Made g.D.BlockDevice.told g.T.Trail.whole c.args.geometry.now c.args.callers) c.in_ok-parts.parts.items c.args.sources.items made
+    ∙ sym (length-map c.args.sources.items (λ (s : Source g.row.D.Denot g.row.T.Denot). s.name)) in (
+      subst (λ n. 0 < n) (sym long) is.0,
+      subst (λ n. n ≤ 16) (sym long) is.1,
+      both_all (Made g.D.BlockDevice.told g.T.Trail.whole c.args.geometry.now c.args.callers) (λ (n : CacheNames). n.seats ≡ c.args.callers + 1)
+          (λ n s m. m.seats) c.in_ok-parts.parts.items c.args.sources.items made,
+    )
