@@ -223,8 +223,10 @@ impl<D: BlockDevice, T: Trail + Drop> ShardParts<D, T> {
                 left: sources,
             });
         };
-        let parts = make_all(rt, alloc, geometry, sources, made, &mut seats)?;
-        Ok((ShardParts { parts, callers }, seats))
+        match make_all(rt, alloc, geometry, sources, made, &mut seats) {
+            Ok(parts) => Ok((ShardParts { parts, callers }, seats)),
+            Err(unmade) => Err(unmade),
+        }
     }
 }
 
