@@ -13,27 +13,24 @@ make_all-requires-clause-callers g c =
     let is = config_is (map (λ (s : Source g.row.D.Denot g.row.T.Denot). s.name) c.args.sources.items) c.args.callers ok in
     subst (λ n. (0 < n) × (n ≤ 64)) (sym c.in-Ok-without_shards.ensures.len) (is.2, is.3)
 
-pub returns-clause-made : goal.returns-clause-made
-returns-clause-made g c =
-    subst (λ n. AllBoth (Made g.D.BlockDevice.told g.T.Trail.whole c.args.geometry.now n) c.in_ok-parts.parts.items c.args.sources.items)
-    c.in-Ok-without_shards.ensures.len c.in_ok-parts.ensures.made
-
-pub returns-in_err-parts-clause-refused : goal.returns-in_err-parts-clause-refused
-returns-in_err-parts-clause-refused g c = ?
+pub returns-in-Ok-make_all-clause-made : goal.returns-in-Ok-make_all-clause-made
+returns-in-Ok-make_all-clause-made g c =
+    subst (λ n. AllBoth (Made g.D.BlockDevice.told g.T.Trail.whole c.args.geometry.now n) c.in-Ok-make_all.parts.items c.args.sources.items)
+    c.in-Ok-without_shards.ensures.len c.in-Ok-make_all.ensures.made
 
 pub invariant_of-result : goal.invariant_of-result
 invariant_of-result g c =
     let ok : is_config (map (λ (s : Source g.row.D.Denot g.row.T.Denot). s.name) c.args.sources.items) c.args.callers ≡ true = cc in
     let is = config_is (map (λ (s : Source g.row.D.Denot g.row.T.Denot). s.name) c.args.sources.items) c.args.callers ok in
-    let made : AllBoth (Made g.D.BlockDevice.told g.T.Trail.whole c.args.geometry.now c.args.callers) c.in_ok-parts.parts.items c.args.sources.items =
-    subst (λ n. AllBoth (Made g.D.BlockDevice.told g.T.Trail.whole c.args.geometry.now n) c.in_ok-parts.parts.items c.args.sources.items)
-    c.in-Ok-without_shards.ensures.len c.in_ok-parts.ensures.made in
-    let long : vec_len c.in_ok-parts.parts ≡ length (map (λ (s : Source g.row.D.Denot g.row.T.Denot). s.name) c.args.sources.items) =
-    c.in_ok-parts.parts.ok.0
-    ∙ both_length (Made g.D.BlockDevice.told g.T.Trail.whole c.args.geometry.now c.args.callers) c.in_ok-parts.parts.items c.args.sources.items made
+    let made : AllBoth (Made g.D.BlockDevice.told g.T.Trail.whole c.args.geometry.now c.args.callers) c.in-Ok-make_all.parts.items c.args.sources.items =
+    subst (λ n. AllBoth (Made g.D.BlockDevice.told g.T.Trail.whole c.args.geometry.now n) c.in-Ok-make_all.parts.items c.args.sources.items)
+    c.in-Ok-without_shards.ensures.len c.in-Ok-make_all.ensures.made in
+    let long : vec_len c.in-Ok-make_all.parts ≡ length (map (λ (s : Source g.row.D.Denot g.row.T.Denot). s.name) c.args.sources.items) =
+    c.in-Ok-make_all.parts.ok.0
+    ∙ both_length (Made g.D.BlockDevice.told g.T.Trail.whole c.args.geometry.now c.args.callers) c.in-Ok-make_all.parts.items c.args.sources.items made
     ∙ sym (length-map c.args.sources.items (λ (s : Source g.row.D.Denot g.row.T.Denot). s.name)) in (
       subst (λ n. 0 < n) (sym long) is.0,
       subst (λ n. n ≤ 16) (sym long) is.1,
       both_all (Made g.D.BlockDevice.told g.T.Trail.whole c.args.geometry.now c.args.callers) (λ (n : CacheNames). n.seats ≡ c.args.callers + 1)
-          (λ n s m. m.seats) c.in_ok-parts.parts.items c.args.sources.items made,
+          (λ n s m. m.seats) c.in-Ok-make_all.parts.items c.args.sources.items made,
     )
