@@ -17,12 +17,12 @@ map_set (w ∷ ws) zero x = refl
 map_set (w ∷ ws) (suc k) x = ap (λ ss. seat_of w ∷ ss) (map_set ws k x)
 
 seat_there : (ws : List Worker) (k : ℕ) (w : Worker) → slice_get ws k ≡ Some w → part (map seat_of ws) k ≡ seat_of w
-seat_there [] k w is = absurd (grind is)
-seat_there (v ∷ ws) zero w is = grind is
+seat_there [] k w is = absurd cc
+seat_there (v ∷ ws) zero w is = let same : v ≡ w = cc in ap seat_of same
 seat_there (v ∷ ws) (suc k) w is = seat_there ws k w is
 
 is_within : (ws : List Worker) (k : ℕ) (w : Worker) → slice_get ws k ≡ Some w → k < length (map seat_of ws)
-is_within [] k w is = absurd (grind is)
+is_within [] k w is = absurd cc
 is_within (v ∷ ws) zero w is = omega arith
 is_within (v ∷ ws) (suc k) w is = let l = is_within ws k w is in omega (arith, l)
 

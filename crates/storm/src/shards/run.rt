@@ -1,6 +1,6 @@
 //! A storm over a cache of shards, and whether the history of each shard is that of plain files.
 
-ghost use Rattle.std.specs.Prelude.{◌≡◌, ◌<◌, ◌≤◌, ℕ, All, IfSome, length, vec_len};
+ghost use Rattle.std.specs.Prelude.{◌≡◌, ◌<◌, ◌≤◌, ℕ, All, IfOk, IfSome, length, vec_len};
 ghost use Rattle.shared.specs.ShardNames.{names_at};
 ghost use Rattle.shared.specs.ShardSeats.{AreSeated};
 ghost use Rattle.shared.specs.ShardWorkers.{AreWorkers};
@@ -104,14 +104,23 @@ pub fn shard_storm<R: Threads + Wait + Sync>(
     requires shards { (0 < options.shards) × (options.shards ≤ 16) }
     requires few { options.threads ≤ 16 }
 {
-    let mut devices = Vec::new(alloc);
-    for _ in 0..options.shards {
-        let device = MemDevice::new(alloc, PAGE, weather.blocks).map_err(fault_of)?;
-        if devices.push(device).is_err() {
-            return Err(Fault::Memory);
-        }
-    }
+    let devices = devices_of(alloc, options.shards, weather.blocks)?;
     shards_over(rt, alloc, devices, options, weather)
+}
+
+/// So many devices in memory, of blocks of 64 bytes.
+fn devices_of(alloc: Global, count: u64, blocks: u64) -> Result<Vec<MemDevice>, Fault>
+    ensures count { IfOk result (λ v. vec_len v ≡ count) }
+    ensures sizes { IfOk result (λ v. All (λ d. (d.size ≡ 64) × (d.count ≡ blocks)) v.items) }
+{
+    let mut devices = Vec::new(alloc);
+    for _ in 0..count {
+        let device = MemDevice::new(alloc, PAGE, blocks).map_err(fault_of)?;
+        let Ok(()) = devices.push(device) else {
+            return Err(Fault::Memory);
+        };
+    }
+    Ok(devices)
 }
 
 /// Runs a storm over a shard for each of these devices of blocks of 64 bytes. The histories are played again over copies of the devices.

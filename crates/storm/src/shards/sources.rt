@@ -56,9 +56,12 @@ pub fn sources_of<D: BlockDevice>(
     for device in devices {
         let name = NAME + sources.len() as u64;
         let (source, copied) = source_of(alloc, geometry, name, device, needs)?;
-        if sources.push(source).is_err() || copies.push(copied).is_err() {
+        let Ok(()) = sources.push(source) else {
             return Err(Fault::Memory);
-        }
+        };
+        let Ok(()) = copies.push(copied) else {
+            return Err(Fault::Memory);
+        };
     }
     Ok((sources, copies))
 }

@@ -1,0 +1,10 @@
+use Rattle.std.proofs.Common.{subst, sym}
+use Rattle.shared.specs.ShardSeats.{AreSeated}
+use Rattle.storm.proofs.Working.{seats_after_io_worker}
+use Rattle.storm.proofs.shards.crew.Hand.carry_out.Goals as goal
+
+pub of-requires : goal.of-requires
+of-requires g c =
+    subst (AreSeated g.B.ShardNaming.names) (sym c.into_seat.ensures)
+    (seats_after_io_worker g.B.ShardNaming.names c.args.shard c.self.inside.worker c.io_worker.new.worker c.io_worker.ensures.turn
+    c.self.invariant.2)
