@@ -1,5 +1,6 @@
 -- Copies of the device of a storm.
-use Rattle.std.proofs.Common.{◌≡◌, ℕ, Bool, true, false, ◌∙◌, sym, eqb, eq-eqb}
+use Rattle.std.proofs.Common.{◌≡◌, ℕ, Bool, true, false, ◌∙◌, sym, eqb, eq-eqb, List, [], ◌∷◌, ◌++◌, All}
+use Rattle.std.proofs.lemmas.List.Elements.{All-push, All-same}
 use Rattle.std.specs.Prelude.{◌&&◌}
 use Rattle.blockdev.specs.Device.{Told}
 use Rattle.pc_types.specs.Limits.{Sizes}
@@ -34,3 +35,13 @@ copies_are_for g d copies c is = (
   c.0.2,
   c.1.2,
 )
+
+-- and one more of them
+pub all_for : (g : Sizes) (old new : List Copies) (c : Copies) → new ≡ old ++ c ∷ [] → All (AreFor g) old → AreFor g c → All (AreFor g) new
+all_for g old new c is all one = All-same (AreFor g) new (old ++ c ∷ []) is (All-push (AreFor g) old c all one)
+
+-- one more device of these sizes
+pub all_disks : {S : Type 0} (old new : List S) (s : S) (told : S → Told) (g : Sizes) → new ≡ old ++ s ∷ []
+    → All (λ x. IsDisk g (told x)) old → IsDisk g (told s) → All (λ x. IsDisk g (told x)) new
+all_disks old new s told g is all one =
+    All-same (λ x. IsDisk g (told x)) new (old ++ s ∷ []) is (All-push (λ x. IsDisk g (told x)) old s all one)
