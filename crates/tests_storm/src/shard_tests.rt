@@ -156,6 +156,6 @@ fn a_shard_whose_device_loses_blocks_is_found(rt: HostRuntime) -> Result<(), Fai
             lost.push(matches!(shard.device, Keeping::Lost(_)))?;
         }
     }
-    assert_eq!(&rt; lost.as_slice(), &[false, true, false]);
+    assert_eq!(&rt; lost.as_slice(), [false, true, false].as_slice());
     Ok(())
 }
