@@ -8,6 +8,7 @@ use Rattle.shared.proofs.ShardSeated.{same_or_else}
 use Rattle.shared.specs.Polls.{Polled}
 use Rattle.shared.specs.Seen.{FailedSeen}
 use Rattle.shared.specs.ShardNames.{CacheNames}
+use Rattle.shared.specs.Workers.{IsOwnFailure}
 use Rattle.shared.specs.declared.shards.handle.ShardHandle.{ShardHandle}
 
 less_or_else : (a b : ℕ) → (a < b) ⊎ (b ≤ a)
@@ -65,3 +66,13 @@ told_came names shards old new failed known result absent foreign other told =
   where
     changed : new ≡ record old { handle = record old.handle { pass = record old.handle.pass { known = known } } } → IsStill old new
     changed is = (ap (λ (h : ShardHandle). h.shard) is, ap (λ (h : ShardHandle). h.handle.cache) is, ap (λ (h : ShardHandle). h.handle.pass.board) is)
+
+-- a failed write of one shard is of that shard's board
+pub of_one : (names : ℕ → CacheNames) (own shard : ℕ) (failed : FailedSeen) → own ≡ shard
+    → IsOwnFailure (names shard).name (names shard).board failed → failed.cache ≡ (names own).name → failed.receipt.board ≡ (names own).board
+of_one names own shard failed same is named = is.1 ∙ ap (λ k. (names k).board) (sym same)
+
+-- and of no board of a shard with another name
+pub of_others : (names : ℕ → CacheNames) (own shard : ℕ) (failed : FailedSeen) → (names own).name ≢ (names shard).name
+    → IsOwnFailure (names shard).name (names shard).board failed → failed.cache ≡ (names own).name → failed.receipt.board ≡ (names own).board
+of_others names own shard failed apart is named = absurd (apart (sym named ∙ is.0))

@@ -94,7 +94,7 @@ fn tells_two<B: ShardNaming, R: Wait>(
 }
 
 /// Tells the handle of the write that failed in this shard. Answers whether that is not refused. No two shards have one name.
-#[tactic(auto, using(crate::proofs::Told::told_came))]
+#[tactic(auto, using(crate::proofs::Told::told_came, crate::proofs::Told::of_one, crate::proofs::Told::of_others))]
 fn tells<B: ShardNaming>(
     cache: &Tested<'_, B>,
     file: &mut Opened<B>,
@@ -106,9 +106,10 @@ fn tells<B: ShardNaming>(
     ensures { failed.new ≡ failed.old }
 {
     let own = file.handle.shard();
-    let is_there = own < cache.shards();
-    let is_one = own != shard && cache.name_of(own) == cache.name_of(shard);
-    if !is_there || is_one {
+    if own == shard {
+        return cache.tell_error(&mut file.handle, failed) == Ok(());
+    }
+    if own >= cache.shards() || cache.name_of(own) == cache.name_of(shard) {
         return false;
     }
     cache.tell_error(&mut file.handle, failed) == Ok(())

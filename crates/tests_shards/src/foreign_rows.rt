@@ -153,14 +153,14 @@ fn refuses<B: ShardNaming, R: Wait>(
     };
     let is_slip_refused = caller.seat.see(&slip) == Err(Refusal::Stranger);
     let finds_no_files = finds_no_files(rt, cache, stranger, &file);
-    let is_seat_refused = refuses_all(rt, cache, stranger, &mut file, Refusal::Stranger);
-    let is_near_refused = refuses_all(rt, cache, caller, &mut near, Refusal::BadHandle);
-    let is_far_refused = refuses_all(rt, cache, caller, &mut far, Refusal::BadHandle);
+    let is_seat_refused = refuses_all(rt, cache, stranger, &mut file, &Refusal::Stranger);
+    let is_near_refused = refuses_all(rt, cache, caller, &mut near, &Refusal::BadHandle);
+    let is_far_refused = refuses_all(rt, cache, caller, &mut far, &Refusal::BadHandle);
     let is_unheard = hears_not(cache, &mut near) && hears_not(cache, &mut far);
-    let stay_open = stays_open(rt, cache, caller, near, Refusal::BadHandle)
-        && stays_open(rt, cache, caller, far, Refusal::BadHandle);
+    let stay_open = stays_open(rt, cache, caller, near, &Refusal::BadHandle)
+        && stays_open(rt, cache, caller, far, &Refusal::BadHandle);
     let is_same = is_next(rt, cache, caller, &file, &wrote);
-    let stays = stays_open(rt, cache, stranger, file, Refusal::Stranger);
+    let stays = stays_open(rt, cache, stranger, file, &Refusal::Stranger);
     is_slip_refused
         && finds_no_files
         && is_seat_refused
@@ -187,8 +187,8 @@ fn is_next<B: ShardNaming, R: Wait>(
 }
 
 /// Whether it was refused so, without an event.
-fn is_denied<T>(answer: &Result<T, Denied>, refusal: Refusal) -> bool {
-    matches!(answer, Err(denied) if denied.refusal == refusal && denied.slip.is_none())
+fn is_denied<T>(answer: &Result<T, Denied>, refusal: &Refusal) -> bool {
+    matches!(answer, Err(denied) if denied.refusal == *refusal && denied.slip.is_none())
 }
 
 /// Whether no file is made, opened or told of for a stranger.
@@ -213,7 +213,7 @@ fn finds_no_files<B: ShardNaming, R: Wait>(
     let listed = cache.catalog(rt, seat, 1);
     is_unmade
         && matches!(none, Err(CreateDenied::NoShard))
-        && is_denied(&opened, Refusal::Stranger)
+        && is_denied(&opened, &Refusal::Stranger)
         && placed == Err(Refusal::Stranger)
         && matches!(listed, Err(Refusal::Stranger))
 }
@@ -224,7 +224,7 @@ fn refuses_all<B: ShardNaming, R: Wait>(
     cache: &Tested<'_, B>,
     caller: &mut Caller<B>,
     file: &mut Opened<B>,
-    refusal: Refusal,
+    refusal: &Refusal,
 ) -> bool {
     let is_unread = reads_nothing(rt, cache, caller, file, refusal);
     let is_unchanged = changes_nothing(rt, cache, caller, file, refusal);
@@ -237,7 +237,7 @@ fn reads_nothing<B: ShardNaming, R: Wait>(
     cache: &Tested<'_, B>,
     caller: &mut Caller<B>,
     file: &mut Opened<B>,
-    refusal: Refusal,
+    refusal: &Refusal,
 ) -> bool {
     let mut out = [UNTOUCHED; 4];
     let seat = &mut caller.seat;
@@ -260,7 +260,7 @@ fn changes_nothing<B: ShardNaming, R: Wait>(
     cache: &Tested<'_, B>,
     caller: &mut Caller<B>,
     file: &mut Opened<B>,
-    refusal: Refusal,
+    refusal: &Refusal,
 ) -> bool {
     let seat = &mut caller.seat;
     let wrote = cache.pwrite(rt, seat, &file.handle, 0, b"odd");
@@ -277,7 +277,7 @@ fn syncs_nothing<B: ShardNaming, R: Wait>(
     cache: &Tested<'_, B>,
     caller: &mut Caller<B>,
     file: &mut Opened<B>,
-    refusal: Refusal,
+    refusal: &Refusal,
 ) -> bool {
     let first = PageIndex(0);
     let whole = cache.fsync(rt, &mut caller.seat, &mut file.handle);
@@ -297,13 +297,13 @@ fn stays_open<B: ShardNaming, R: Wait>(
     cache: &Tested<'_, B>,
     caller: &mut Caller<B>,
     file: Opened<B>,
-    refusal: Refusal,
+    refusal: &Refusal,
 ) -> bool {
     let (shard, name) = (file.handle.shard(), file.handle.cache());
     match cache.close_handle(rt, &mut caller.seat, file.handle) {
         Ok(_) => false,
         Err((denied, handle)) => {
-            let is_so = denied.refusal == refusal && denied.slip.is_none();
+            let is_so = denied.refusal == *refusal && denied.slip.is_none();
             is_so && handle.shard() == shard && handle.cache() == name
         }
     }
@@ -326,8 +326,12 @@ fn own_parts<'a, R: Wait>(rt: &R, alloc: Global) -> Option<Made<'a>>
     ensures seats { IfSome result (λ r. All (AreSeated (names_at r.0)) r.1.items) }
     ensures low { IfSome result (λ r. (k : ℕ) → (names_at r.0 k).name < OTHERS) }
 {
-    let geometry = geometry().ok()?;
-    let sources = sources(alloc, &geometry, SHARDS, FIRST, Plan::SHORT, None).ok()?;
+    let Ok(geometry) = geometry() else {
+        return None;
+    };
+    let Ok(sources) = sources(alloc, &geometry, SHARDS, FIRST, Plan::SHORT, None) else {
+        return None;
+    };
     match ShardParts::make(rt, alloc, &geometry, sources, 2) {
         Ok(made) => Some(made),
         Err(_) => None,
@@ -340,8 +344,12 @@ fn other_parts<'a, R: Wait>(rt: &R, alloc: Global, shards: u64) -> Option<Made<'
     ensures seats { IfSome result (λ r. All (AreSeated (names_at r.0)) r.1.items) }
     ensures high { IfSome result (λ r. All (λ s. (k : ℕ) → k < length s → OTHERS ≤ (part s k).name) r.1.items) }
 {
-    let geometry = geometry().ok()?;
-    let sources = sources(alloc, &geometry, shards, OTHERS, Plan::SHORT, None).ok()?;
+    let Ok(geometry) = geometry() else {
+        return None;
+    };
+    let Ok(sources) = sources(alloc, &geometry, shards, OTHERS, Plan::SHORT, None) else {
+        return None;
+    };
     match ShardParts::make(rt, alloc, &geometry, sources, 2) {
         Ok(made) => Some(made),
         Err(_) => None,

@@ -41,8 +41,8 @@ pub(crate) fn stands<'a, B: ShardNaming, R: Wait>(
     let Some(left) = closes(rt, cache, own, seats) else {
         return false;
     };
-    let blocks = [first, second, third];
-    let is_so = is_none && is_back && are_plain(alloc, &left) && have_pages(&left, &blocks);
+    let blocks = (first, second, third);
+    let is_so = is_none && is_back && are_plain(alloc, &left) && have_pages(&left, blocks);
     drop(left);
     is_so
 }
@@ -136,13 +136,14 @@ fn is_nowhere<B: ShardNaming, R: Wait>(
 }
 
 /// Whether each device has its shard's first page at the shard's block.
-fn have_pages(left: &[Left<'_>], blocks: &[BlockNo]) -> bool {
-    left.len() == blocks.len()
-        && left.iter().zip(blocks).enumerate().all(|(shard, (left, block))| has_page(
-            &left.device,
-            *block,
-            shard as u8,
-        ))
+fn have_pages(left: &[Left<'_>], blocks: (BlockNo, BlockNo, BlockNo)) -> bool {
+    let (Some(first), Some(second), Some(third)) = (left.get(0), left.get(1), left.get(2)) else {
+        return false;
+    };
+    left.len() == 3
+        && has_page(&first.device, blocks.0, 0)
+        && has_page(&second.device, blocks.1, 1)
+        && has_page(&third.device, blocks.2, 2)
 }
 
 /// Whether the block has the text's first page, with the shard's number in the place of its first byte.

@@ -56,8 +56,8 @@ pub(crate) fn work_apart<B: ShardNaming + Send + Sync, R: Threads + Wait + Sync>
     };
     let (one, two) = thread::join(
         rt,
-        || writes_and_reads(rt, cache, first, &mine, 0xaa, 0xaa),
-        || writes_and_reads(rt, cache, second, &other, 0xbb, 0xbb),
+        move || writes_and_reads(rt, cache, first, &mine, 0xaa, 0xaa),
+        move || writes_and_reads(rt, cache, second, &other, 0xbb, 0xbb),
     );
     one && two
 }
@@ -78,8 +78,8 @@ pub(crate) fn share_a_file<B: ShardNaming + Send + Sync, R: Threads + Wait + Syn
     };
     let (one, two) = thread::join(
         rt,
-        || writes_and_reads(rt, cache, first, &mine, 0xaa, 0xbb),
-        || writes_and_reads(rt, cache, second, &other, 0xbb, 0xaa),
+        move || writes_and_reads(rt, cache, first, &mine, 0xaa, 0xbb),
+        move || writes_and_reads(rt, cache, second, &other, 0xbb, 0xaa),
     );
     one && two
 }
