@@ -38,7 +38,6 @@ pub(crate) fn tells_at_a_sync<B: ShardNaming, R: Wait>(
 }
 
 /// What the handle is told.
-#[tactic(auto, using(crate::proofs::Told::polled_came))]
 fn polls<B: ShardNaming>(
     cache: &Tested<'_, B>,
     file: &mut Opened<B>,
@@ -94,7 +93,7 @@ fn tells_two<B: ShardNaming, R: Wait>(
 }
 
 /// Tells the handle of the write that failed in this shard. Answers whether that is not refused. No two shards have one name.
-#[tactic(auto, using(crate::proofs::Told::told_came, crate::proofs::Told::of_one, crate::proofs::Told::of_others))]
+#[tactic(auto, using(crate::proofs::Told::of_one, crate::proofs::Told::of_others))]
 fn tells<B: ShardNaming>(
     cache: &Tested<'_, B>,
     file: &mut Opened<B>,

@@ -134,6 +134,7 @@ fn closes_beside<'a, B: ShardNaming, R: Wait>(
 }
 
 /// Calls by a stranger's seat and calls with another cache's handles are refused, and change nothing.
+#[tactic(auto, using(crate::proofs::Seen::see_seated))]
 fn refuses<B: ShardNaming, R: Wait>(
     rt: &R,
     cache: &Tested<'_, B>,
@@ -286,7 +287,6 @@ fn syncs_nothing<B: ShardNaming, R: Wait>(
 }
 
 /// Whether the handle is not told of failed writes.
-#[tactic(auto, using(crate::proofs::Told::polled_came))]
 fn hears_not<B: ShardNaming>(cache: &Tested<'_, B>, file: &mut Opened<B>) -> bool {
     cache.poll_error(&mut file.handle) == Err(Refusal::BadHandle)
 }

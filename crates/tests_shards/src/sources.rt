@@ -1,6 +1,6 @@
 //! What the caches of the rows are made of: pages of 16 bytes, 48 frames, a dirty limit of 16, and a device of 256 blocks a shard.
 
-ghost use Rattle.std.specs.Prelude.{◌≡◌, ◌<◌, ◌≤◌, ◌+◌, All, IfOk, vec_len};
+ghost use Rattle.std.specs.Prelude.{◌≡◌, ◌<◌, ◌≤◌, ◌+◌, All, IfOk};
 ghost use Rattle.shared.specs.Keeps.{IsDisk};
 
 use crate::gated_trail::GatedTrail;
@@ -57,11 +57,18 @@ impl Plan {
         twice: false,
     };
 
-    /// The plan of the other shards.
-    fn of_others(self) -> Plan {
-        let mut plan = self;
-        plan.fails = false;
-        plan
+    /// The name of a shard.
+    fn name(self, first: u64, shard: u64, count: u64) -> u64
+        requires there { shard < count }
+        requires few { first + count < 1000 }
+        ensures least { first ≤ result }
+        ensures most { result < first + count }
+    {
+        if self.twice && shard + 1 == count {
+            first
+        } else {
+            first + shard
+        }
     }
 }
 
@@ -70,6 +77,7 @@ fn source<'a>(
     alloc: Global,
     geometry: &Geometry,
     name: u64,
+    shard: u64,
     plan: Plan,
     turnstile: Option<&'a Turnstile>,
 ) -> Result<Given<'a>, Refusal>
@@ -78,12 +86,15 @@ fn source<'a>(
 {
     let trail = FullTrail::new(alloc, plan.events, plan.events.saturating_mul(16))?;
     let mut device = ScriptDevice::new(alloc, geometry.page(), geometry.blocks())?;
-    if plan.fails {
+    if plan.fails && shard == 0 {
         device.fail_next(ErrCode::IO, FaultEffect::Old);
     }
     Ok(Source {
         name,
-        trail: GatedTrail { trail, turnstile },
+        trail: GatedTrail {
+            trail,
+            turnstile: if shard == 0 { turnstile } else { None },
+        },
         device,
     })
 }
@@ -104,17 +115,8 @@ pub(crate) fn sources<'a>(
 {
     let mut all = Vec::new(alloc);
     for shard in 0..count {
-        let (plan, turnstile) = if shard == 0 {
-            (plan, turnstile)
-        } else {
-            (plan.of_others(), None)
-        };
-        let name = if plan.twice && shard + 1 == count {
-            first
-        } else {
-            first + shard
-        };
-        let source = source(alloc, geometry, name, plan, turnstile)?;
+        let name = plan.name(first, shard, count);
+        let source = source(alloc, geometry, name, shard, plan, turnstile)?;
         if all.push(source).is_err() {
             return Err(Refusal::Memory);
         }

@@ -88,7 +88,6 @@ impl<B: ShardNaming> Hand<B> {
     }
 
     /// Begins to write a page of the shard. Answers whether the job lies in the shard's ring.
-    #[tactic(auto, using(crate::proofs::Hands::begun_seated))]
     pub(crate) fn begins<R: Wait>(&mut self, rt: &R, cache: &Tested<'_, B>, shard: u64) -> bool
         requires { shard < B.shards }
     {
@@ -97,7 +96,7 @@ impl<B: ShardNaming> Hand<B> {
     }
 
     /// Ends a write of the shard. Answers its failure, where it failed.
-    #[tactic(auto, using(crate::proofs::Hands::ended_seated, crate::proofs::Hands::own_failed))]
+    #[tactic(auto, using(crate::proofs::Hands::own_failed))]
     pub(crate) fn ends<R: Wait>(
         &mut self,
         rt: &R,
@@ -107,12 +106,13 @@ impl<B: ShardNaming> Hand<B> {
         requires { shard < B.shards }
         ensures { IfSome result (IsOwnFailure (B.names shard).name (B.names shard).board) }
     {
-        let done = cache.io_turn(rt, &Open, shard, &mut self.worker)?;
-        done.failed
+        match cache.io_turn(rt, &Open, shard, &mut self.worker) {
+            Some(done) => done.failed,
+            None => None,
+        }
     }
 
     /// Carries out the shard's jobs, till it is told to stop.
-    #[tactic(auto, using(crate::proofs::Hands::io_seated))]
     fn carries_out<R: Wait>(&mut self, rt: &R, cache: &Tested<'_, B>, shard: u64)
         requires { shard < B.shards }
     {
@@ -120,7 +120,6 @@ impl<B: ShardNaming> Hand<B> {
     }
 
     /// Writes the shard's pages back, till it is told to stop.
-    #[tactic(auto, using(crate::proofs::Hands::flusher_seated))]
     fn writes_back<R: Wait>(&mut self, rt: &R, cache: &Tested<'_, B>, shard: u64)
         requires { shard < B.shards }
     {
@@ -128,7 +127,6 @@ impl<B: ShardNaming> Hand<B> {
     }
 
     /// Lets the shard's pages go, till it is told to stop.
-    #[tactic(auto, using(crate::proofs::Hands::evictor_seated))]
     fn lets_go<R: Wait>(&mut self, rt: &R, cache: &Tested<'_, B>, shard: u64)
         requires { shard < B.shards }
     {
