@@ -1,6 +1,7 @@
 -- Names of caches that are apart, and seats of the others.
-use Rattle.std.proofs.Common.{◌≡◌, ◌<◌, ◌≤◌, ◌∷◌, [], ℕ, zero, suc, List, length, slice_index_or, subst, sym, arith}
-use Rattle.std.specs.Prelude.{All}
+use Rattle.std.proofs.Common.{Bool, true, false, ◌++◌, ◌≡◌, ◌<◌, ◌≤◌, ◌∷◌, [], ℕ, zero, suc, List, length, slice_index_or, subst, sym, arith}
+use Rattle.std.proofs.lemmas.List.Elements.{All-push}
+use Rattle.std.specs.Prelude.{All, if◌then◌else◌}
 use Rattle.held.specs.Shown.{SeatSeen}
 use Rattle.shared.specs.ShardNames.{CacheNames, names_at}
 use Rattle.shared.specs.ShardParts.{AllBoth}
@@ -37,3 +38,9 @@ seats_high most parts rows high are i d less k under =
 pub strange_seated : (names : ℕ → CacheNames) (most : ℕ) (seats : List SeatSeen) → ((k : ℕ) → (names k).name < most)
     → ((k : ℕ) → k < length seats → most ≤ (part seats k).name) → AreSeated names seats
 strange_seated names most seats low high k less named = absurd (omega (arith, low k, high k less, named))
+
+-- and one more, where there was room for it
+pub all_more : {X : Type 0} (P : X → Type 0) (before after : List X) (x : X) (fits : Bool)
+    → after ≡ (if fits then before ++ x ∷ [] else before) → All P before → P x → All P after
+all_more P before after x true is all one = subst (All P) (sym is) (All-push P before x all one)
+all_more P before after x false is all one = subst (All P) (sym is) all

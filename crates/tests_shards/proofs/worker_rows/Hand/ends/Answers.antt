@@ -8,11 +8,3 @@ invariant_of-self g c =
       c.io_turn.ensures.workers,
       ended_seated names c.args.shard (names c.args.shard) _ _ _ _ c.io_turn.ensures.turn c.self.invariant.2,
     )
-
-pub invariant_of-self-2 : goal.invariant_of-self-2
-invariant_of-self-2 g c =
-    let names = g.B.ShardNaming.names in (
-      c.io_turn.ensures.count,
-      c.io_turn.ensures.workers,
-      ended_seated names c.args.shard (names c.args.shard) _ _ _ _ c.io_turn.ensures.turn c.self.invariant.2,
-    )
