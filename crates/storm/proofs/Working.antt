@@ -2,7 +2,6 @@
 use Rattle.std.proofs.Common.{◌≡◌, ◌<◌, ◌∙◌, ℕ, zero, suc, List, [], ◌∷◌, Some, length, map, refl, slice_get, slice_set, subst, sym, ap, arith}
 use Rattle.std.proofs.lemmas.List.{get_or-set_same}
 use Rattle.held.specs.Called.{Goes}
-use Rattle.held.specs.Shown.{SeatSeen}
 use Rattle.shared.specs.ShardNames.{CacheNames}
 use Rattle.shared.specs.ShardSeats.{AreSeated, OnlyAt, no_seat, part}
 use Rattle.shared.specs.ShardWorkers.{WorksAt}
