@@ -1,7 +1,6 @@
 //! Plain copies, by threads with memory of their own.
 
-ghost use Rattle.std.specs.Prelude.{◌≡◌, ◌<◌, ◌≤◌, ◌+◌, All, length};
-ghost use Rattle.bench_shards.specs.declared.offsets.TheConstants.{PAGE};
+ghost use Rattle.std.specs.Prelude.{◌<◌, ◌≤◌};
 
 use crate::offsets::{CACHED, Offsets, PAGE, Size};
 use bench_threads::numbers::Numbers;

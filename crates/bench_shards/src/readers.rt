@@ -1,8 +1,7 @@
 //! Threads that read files of a cache of shards, each by a seat and a handle of its own.
 
-ghost use Rattle.std.specs.Prelude.{◌≡◌, ◌<◌, ◌≤◌, length};
+ghost use Rattle.std.specs.Prelude.{◌≡◌, ◌<◌, length};
 ghost use Rattle.shared.specs.ShardSeats.{AreSeated};
-ghost use Rattle.bench_shards.specs.declared.offsets.TheConstants.{PAGE};
 
 use crate::offsets::{Offsets, PAGE, Size};
 use bench_timing::Fault;
