@@ -232,7 +232,6 @@ fn syncs_parts<B: ShardNaming, R: Wait>(
 }
 
 /// A caller writes in shard 1, and another, who saw the slip of that, reads there after it.
-#[tactic(auto, using(crate::proofs::Seen::see_seated))]
 pub(crate) fn is_seen<B: ShardNaming, R: Wait>(
     rt: &R,
     cache: &Tested<'_, B>,

@@ -134,7 +134,6 @@ fn closes_beside<'a, B: ShardNaming, R: Wait>(
 }
 
 /// Calls by a stranger's seat and calls with another cache's handles are refused, and change nothing.
-#[tactic(auto, using(crate::proofs::Seen::see_seated))]
 fn refuses<B: ShardNaming, R: Wait>(
     rt: &R,
     cache: &Tested<'_, B>,
