@@ -15,5 +15,6 @@ pub mod Answered
 pub mod Letting
 pub mod Sparing
 pub mod Wanting
+pub mod CallCounts
 pub mod Carrying
 pub mod Settling

@@ -1,0 +1,86 @@
+-- What a device call leaves of its block, by what the device tells before and after.
+use Rattle.std.proofs.Common.{◌≡◌, ℕ, zero, suc, ◌+◌, ◌⊎◌, Bool, true, List, [], ◌∷◌, refl, ap, sym, ◌∙◌, subst, inl, inr, ⊎_elim}
+use Rattle.std.specs.Prelude.{slice_get, slice_set, Some, IfSome, Ok, Err}
+use Rattle.std.proofs.lemmas.Option.{none-some, same_Some}
+use Rattle.pc_types.specs.declared.kind.Kind.{Kind}
+use Rattle.pc_types.specs.declared.kind.Kind.TheVariants.{Fill, Flush}
+use Rattle.blockdev.specs.Blocks.{block_at}
+use Rattle.blockdev.specs.Device.{Outcome, Told, Writes, with_block}
+use Rattle.blockdev.specs.Jobs.{Task, FinishedTask, Transfers}
+use Rattle.blockdev.specs.Watching.{Watch, Makes}
+use Rattle.deeds.specs.declared.views.Block.{Block}
+use Rattle.deeds.specs.Comes.{Comes, Leaves}
+use Rattle.deeds.specs.Shown.{AreTold, contents, told_at}
+use Rattle.deeds.proofs.Counts.{contents_at, contents_set}
+use Rattle.deeds.proofs.Lists.{set_here}
+
+get_there : (blocks : List (List ℕ)) (k : ℕ) (b : List ℕ) → slice_get blocks k ≡ Some b → block_at blocks k ≡ b
+get_there [] k b e = absurd (none-some b e)
+get_there (x ∷ xs) zero b e = same_Some x b e
+get_there (x ∷ xs) (suc k) b e = get_there xs k b e
+
+set_same : (blocks : List (List ℕ)) (k : ℕ) (b : List ℕ) → slice_get blocks k ≡ Some b → slice_set blocks k b ≡ blocks
+set_same [] k b e = refl
+set_same (x ∷ xs) zero b e = λ i. sym (same_Some x b e) i ∷ xs
+set_same (x ∷ xs) (suc k) b e = λ i. x ∷ set_same xs k b e i
+
+module _ (old new : Told) (k : ℕ) (buffer : List ℕ) (after : List ℕ) (blocks : List (List ℕ)) (b : List ℕ)
+    (tells : old.contents ≡ Some blocks) (at : slice_get blocks k ≡ Some b) where
+  abbrev left : List ℕ
+  left = told_at new.contents k
+
+  -- the block is as it was
+  stayed : new.contents ≡ old.contents → left ≡ b
+  stayed e = ap (λ o. told_at o k) (e ∙ tells) ∙ get_there blocks k b at
+
+  -- or has the bytes of the buffer
+  wrote : new.contents ≡ with_block old.contents k buffer → left ≡ buffer
+  wrote e = ap (λ o. told_at o k) (e ∙ ap (λ o. with_block o k buffer) tells)
+      ∙ get_there (slice_set blocks k buffer) k buffer (set_here blocks k buffer b at)
+
+  pub leaves_by : (kind : Kind) (r : Outcome) → Transfers kind old k buffer r after new → Leaves kind b buffer r after left
+  leaves_by Fill (Ok u) t = (
+    stayed t.contents,
+    subst (λ o. IfSome o (λ bs. after ≡ block_at bs k)) tells t.bytes ∙ get_there blocks k b at,
+    tt,
+  )
+  leaves_by Fill (Err c) t = (stayed t.contents, tt, t.failed)
+  leaves_by Flush (Ok u) t = (t.1, wrote t.0.written, tt)
+  leaves_by Flush (Err c) t = (t.1, tt, ⊎_elim (λ e. inl (stayed e)) (λ e. inr (wrote e)) t.0.whole)
+
+  kept : new.contents ≡ old.contents → new.contents ≡ Some (slice_set blocks k left)
+  kept e = e ∙ tells ∙ ap Some (sym (set_same blocks k b at) ∙ ap (slice_set blocks k) (sym (stayed e)))
+
+  changed : new.contents ≡ with_block old.contents k buffer → new.contents ≡ Some (slice_set blocks k left)
+  changed e = e ∙ ap (λ o. with_block o k buffer) tells ∙ ap (λ x. Some (slice_set blocks k x)) (sym (wrote e))
+
+  pub told_by : (kind : Kind) (r : Outcome) → Transfers kind old k buffer r after new
+      → new.contents ≡ Some (slice_set blocks k left)
+  told_by Fill r t = kept t.contents
+  told_by Flush (Ok u) t = changed t.0.written
+  told_by Flush (Err c) t = ⊎_elim kept changed t.0.whole
+
+module _ (told : Bool) (blocks : List Block) (task : Task) (done : FinishedTask) (old new : Watch) (before : Block)
+    (tells : AreTold told old.device (contents blocks)) (m : Makes old task done new)
+    (at : slice_get blocks task.block ≡ Some before) where
+  -- one call more, and the bytes that the device tells then
+  abbrev after_call : Block
+  after_call = record { bytes = told_at new.device.contents task.block; calls = before.calls + 1 }
+
+  pub call_comes : Comes told task before done after_call
+  call_comes = record {
+    cache = m.performs.cache;
+    serial = m.performs.serial;
+    kind = m.performs.kind;
+    block = m.performs.block;
+    length = m.performs.length;
+    calls = refl;
+    leaves = λ yes. leaves_by old.device new.device task.block task.bytes done.bytes (contents blocks) before.bytes (tells yes)
+        (contents_at blocks task.block before at) task.kind done.outcome m.performs.call;
+  }
+
+  pub call_told : AreTold told new.device (contents (slice_set blocks task.block after_call))
+  call_told yes =
+      told_by old.device new.device task.block task.bytes done.bytes (contents blocks) before.bytes (tells yes)
+      (contents_at blocks task.block before at) task.kind done.outcome m.performs.call
+      ∙ ap Some (sym (contents_set blocks task.block after_call))
