@@ -10,7 +10,7 @@ use Rattle.blockdev.specs.Jobs.{Task, FinishedTask, Transfers}
 use Rattle.blockdev.specs.Watching.{Watch, Makes}
 use Rattle.deeds.specs.declared.views.Block.{Block}
 use Rattle.deeds.specs.Comes.{Comes, Leaves}
-use Rattle.deeds.specs.Shown.{AreTold, contents, told_at}
+use Rattle.deeds.specs.Shown.{AreTold, bytes_of, told_at}
 use Rattle.deeds.proofs.Counts.{contents_at, contents_set}
 use Rattle.deeds.proofs.Lists.{set_here}
 
@@ -61,7 +61,7 @@ module _ (old new : Told) (k : ℕ) (buffer : List ℕ) (after : List ℕ) (bloc
   told_by Flush (Err c) t = ⊎_elim kept changed t.0.whole
 
 module _ (told : Bool) (blocks : List Block) (task : Task) (done : FinishedTask) (old new : Watch) (before : Block)
-    (tells : AreTold told old.device (contents blocks)) (m : Makes old task done new)
+    (tells : AreTold told old.device (bytes_of blocks)) (m : Makes old task done new)
     (at : slice_get blocks task.block ≡ Some before) where
   -- one call more, and the bytes that the device tells then
   abbrev after_call : Block
@@ -75,12 +75,12 @@ module _ (told : Bool) (blocks : List Block) (task : Task) (done : FinishedTask)
     block = m.performs.block;
     length = m.performs.length;
     calls = refl;
-    leaves = λ yes. leaves_by old.device new.device task.block task.bytes done.bytes (contents blocks) before.bytes (tells yes)
+    leaves = λ yes. leaves_by old.device new.device task.block task.bytes done.bytes (bytes_of blocks) before.bytes (tells yes)
         (contents_at blocks task.block before at) task.kind done.outcome m.performs.call;
   }
 
-  pub call_told : AreTold told new.device (contents (slice_set blocks task.block after_call))
+  pub call_told : AreTold told new.device (bytes_of (slice_set blocks task.block after_call))
   call_told yes =
-      told_by old.device new.device task.block task.bytes done.bytes (contents blocks) before.bytes (tells yes)
+      told_by old.device new.device task.block task.bytes done.bytes (bytes_of blocks) before.bytes (tells yes)
       (contents_at blocks task.block before at) task.kind done.outcome m.performs.call
       ∙ ap Some (sym (contents_set blocks task.block after_call))

@@ -10,23 +10,23 @@ use Rattle.deeds.specs.declared.views.Place.{Place}
 use Rattle.deeds.specs.declared.views.Place.TheVariants.{Home, Out}
 use Rattle.deeds.specs.Comes.{MayHave, MayLeave}
 use Rattle.deeds.specs.Rules.{HasOut, Knows}
-use Rattle.deeds.specs.Shown.{AreTold, calls_of, contents, is_out, known, out_count, uncalled}
+use Rattle.deeds.specs.Shown.{AreTold, bytes_of, calls_of, is_out, known, out_count, uncalled}
 
 -- ---- bytes
 
 pub contents_at : (blocks : List Block) (k : ℕ) (b : Block) → slice_get blocks k ≡ Some b
-    → slice_get (contents blocks) k ≡ Some b.bytes
+    → slice_get (bytes_of blocks) k ≡ Some b.bytes
 contents_at [] k b e = absurd (none-some b e)
 contents_at (x ∷ xs) zero b e = ap (λ (y : Block). Some y.bytes) (same_Some x b e)
 contents_at (x ∷ xs) (suc k) b e = contents_at xs k b e
 
 pub contents_set : (blocks : List Block) (k : ℕ) (b : Block)
-    → contents (slice_set blocks k b) ≡ slice_set (contents blocks) k b.bytes
+    → bytes_of (slice_set blocks k b) ≡ slice_set (bytes_of blocks) k b.bytes
 contents_set [] k b = refl
 contents_set (x ∷ xs) zero b = refl
 contents_set (x ∷ xs) (suc k) b = λ i. x.bytes ∷ contents_set xs k b i
 
-pub contents_uncalled : (blocks : List (List ℕ)) → contents (map uncalled blocks) ≡ blocks
+pub contents_uncalled : (blocks : List (List ℕ)) → bytes_of (map uncalled blocks) ≡ blocks
 contents_uncalled [] = refl
 contents_uncalled (b ∷ bs) = λ i. b ∷ contents_uncalled bs i
 
@@ -44,7 +44,10 @@ calls_cons b bs = sum_by-cons calls_in b bs
 
 pub calls_uncalled : (blocks : List (List ℕ)) → calls_of (map uncalled blocks) ≡ 0
 calls_uncalled [] = refl
-calls_uncalled (b ∷ bs) = calls_cons (uncalled b) (map uncalled bs) ∙ omega (arith, calls_uncalled bs)
+calls_uncalled (b ∷ bs) =
+    let here = calls_cons (uncalled b) (map uncalled bs) in
+    let rest = calls_uncalled bs in
+    omega (arith, here, rest)
 
 pub calls_set : (blocks : List Block) (k : ℕ) (b c : Block) → slice_get blocks k ≡ Some b → c.calls ≡ b.calls + 1
     → calls_of (slice_set blocks k c) ≡ calls_of blocks + 1
@@ -70,7 +73,10 @@ out_cons p ps = sum_by-cons as_one p ps
 
 pub none_is_out : (blocks : List Block) → out_count (map Home blocks) ≡ 0
 none_is_out [] = refl
-none_is_out (b ∷ bs) = out_cons (Home b) (map Home bs) ∙ omega (arith, none_is_out bs)
+none_is_out (b ∷ bs) =
+    let here = out_cons (Home b) (map Home bs) in
+    let rest = none_is_out bs in
+    omega (arith, here, rest)
 
 -- one more place that counts as the other does not
 set_one : (places : List Place) (k : ℕ) (p q : Place) → slice_get places k ≡ Some p → as_one q ≡ as_one p + 1
@@ -137,8 +143,8 @@ accounts told (b ∷ bs) (p ∷ ps) k =
         let same : b.calls ≡ now.calls = ap calls_in (same_Some b now (k.home 0 now (ap Some is))) in
         let known_is : calls_of (known (p ∷ ps)) ≡ now.calls + calls_of (known ps) =
         ap (λ x. calls_of (known (x ∷ ps))) is ∙ calls_cons now (known ps) in
-        let out_is : out_count (p ∷ ps) ≡ out_count ps =
-        ap (λ x. out_count (x ∷ ps)) is ∙ out_cons (Home now) ps ∙ omega arith in
+        let out_is : out_count (p ∷ ps) ≡ 0 + out_count ps =
+        ap (λ x. out_count (x ∷ ps)) is ∙ out_cons (Home now) ps in
         let here = calls_cons b bs in
         let few = rest.1 in
         let all = rest.2 in
@@ -163,6 +169,6 @@ accounts told (b ∷ bs) (p ∷ ps) k =
 -- ---- what the device tells
 
 pub told_uncalled : (told : Bool) (device : Told) (blocks found : List (List ℕ)) (side : List Block) → AreTold told device blocks
-    → side ≡ map uncalled found → found ≡ blocks → AreTold told device (contents side)
+    → side ≡ map uncalled found → found ≡ blocks → AreTold told device (bytes_of side)
 told_uncalled told device blocks found side tells is same yes =
-    tells yes ∙ ap Some (sym (ap contents is ∙ contents_uncalled found ∙ same))
+    tells yes ∙ ap Some (sym (ap bytes_of is ∙ contents_uncalled found ∙ same))

@@ -7,7 +7,7 @@ use Rattle.deeds.specs.declared.views.Block.{Block}
 use Rattle.deeds.specs.declared.views.Given.{Given}
 use Rattle.deeds.specs.declared.views.Place.{Place}
 use Rattle.deeds.specs.declared.views.Place.TheVariants.{Home, Out}
-use Rattle.deeds.specs.Shown.{Settles, calls_of, contents, known, known_of, out_count}
+use Rattle.deeds.specs.Shown.{Settles, bytes_of, calls_of, known, known_of, out_count}
 use Rattle.deeds.specs.Views.{home_in, no_given}
 use Rattle.deeds.proofs.Counts.{calls_set, contents_at, contents_set, in_set, out_set}
 use Rattle.deeds.proofs.Lists.{set_here}
@@ -54,21 +54,21 @@ known_settled told before after done s = ap known s.home ∙ known_set before do
 
 -- ---- the bytes that the desk knows
 
-pub bytes_opened : (blocks : List Block) → contents (known (map Home blocks)) ≡ contents blocks
-bytes_opened blocks = ap contents (known_opened blocks)
+pub bytes_opened : (blocks : List Block) → bytes_of (known (map Home blocks)) ≡ bytes_of blocks
+bytes_opened blocks = ap bytes_of (known_opened blocks)
 
 pub bytes_at : (places : List Place) (k : ℕ) (p : Place) → slice_get places k ≡ Some p
-    → slice_get (contents (known places)) k ≡ Some (known_of p).bytes
+    → slice_get (bytes_of (known places)) k ≡ Some (known_of p).bytes
 bytes_at places k p e = contents_at (known places) k (known_of p) (known_at places k p e)
 
 pub bytes_given : (places : List Place) (k : ℕ) (g : Given) → slice_get places k ≡ Some (Home g.before)
-    → contents (known (slice_set places k (Out g))) ≡ contents (known places)
-bytes_given places k g e = ap contents (known_given places k g e)
+    → bytes_of (known (slice_set places k (Out g))) ≡ bytes_of (known places)
+bytes_given places k g e = ap bytes_of (known_given places k g e)
 
 pub bytes_settled : (told : Bool) (before after : List Place) (done : FinishedTask) (s : Settles told before done after)
-    → contents (known after) ≡ slice_set (contents (known before)) done.block s.left.bytes
+    → bytes_of (known after) ≡ slice_set (bytes_of (known before)) done.block s.left.bytes
 bytes_settled told before after done s =
-    ap contents (known_settled told before after done s) ∙ contents_set (known before) done.block s.left
+    ap bytes_of (known_settled told before after done s) ∙ contents_set (known before) done.block s.left
 
 -- ---- the calls that it knows of, and how many deeds are out
 

@@ -8,7 +8,7 @@ use Rattle.deeds.specs.declared.views.Given.{Given}
 use Rattle.deeds.specs.declared.views.Place.{Place}
 use Rattle.deeds.specs.declared.views.Place.TheVariants.{Home, Out}
 use Rattle.deeds.specs.declared.views.View.{View}
-use Rattle.deeds.specs.Shown.{OneOut, contents, uncalled}
+use Rattle.deeds.specs.Shown.{OneOut, bytes_of, uncalled}
 use Rattle.deeds.specs.Steps.{IsDesk, IsDevice}
 use Rattle.deeds.specs.Views.{desk_in, desk_view, device_in, home_in, no_given}
 use Rattle.deeds.proofs.Counts.{contents_uncalled}
@@ -72,18 +72,17 @@ module _ (me : Me ℕ View) (told : Bool) (blocks : List (List ℕ)) (is : IsDev
   pub opened_told : (device_in me.0).0 ≡ told
   opened_told = ap (λ (m : Me ℕ View). (device_in m.0).0) is
 
-  pub opened_blocks : contents (device_in me.0).1 ≡ blocks
-  opened_blocks = ap (λ (m : Me ℕ View). contents (device_in m.0).1) is ∙ contents_uncalled blocks
+  pub opened_blocks : bytes_of (device_in me.0).1 ≡ blocks
+  opened_blocks = ap (λ (m : Me ℕ View). bytes_of (device_in m.0).1) is ∙ contents_uncalled blocks
 
-  same : (told, blocks) ≡ ((device_in me.0).0, contents (device_in me.0).1)
-  same = λ i. (sym opened_told i, sym opened_blocks i)
-
-  pub opened_device : IsDevice me (device_in me.0).0 (map uncalled (contents (device_in me.0).1))
-  opened_device = subst (λ (d : Bool × List (List ℕ)). IsDevice me d.0 (map uncalled d.1)) same is
+  pub opened_device : IsDevice me (device_in me.0).0 (map uncalled (bytes_of (device_in me.0).1))
+  opened_device = subst (λ (d : Bool × List (List ℕ)). IsDevice me d.0 (map uncalled d.1))
+      (λ i. (sym opened_told i, sym opened_blocks i)) is
 
   pub opened_desk : (desk : Me ℕ View) → IsDesk desk told (map Home (map uncalled blocks))
-      → IsDesk desk (device_in me.0).0 (map Home (map uncalled (contents (device_in me.0).1)))
-  opened_desk desk there = subst (λ (d : Bool × List (List ℕ)). IsDesk desk d.0 (map Home (map uncalled d.1))) same there
+      → IsDesk desk (device_in me.0).0 (map Home (map uncalled (bytes_of (device_in me.0).1)))
+  opened_desk desk there = subst (λ (d : Bool × List (List ℕ)). IsDesk desk d.0 (map Home (map uncalled d.1)))
+      (λ i. (sym opened_told i, sym opened_blocks i)) there
 
 -- ---- at a desk that is known by an equation
 

@@ -18,8 +18,8 @@ abbrev pub uncalled : List ℕ → Block
 uncalled bytes = record { bytes = bytes; calls = 0 }
 
 -- the bytes of blocks
-abbrev pub contents : List Block → List (List ℕ)
-contents blocks = map (λ (b : Block). b.bytes) blocks
+abbrev pub bytes_of : List Block → List (List ℕ)
+bytes_of blocks = map (λ (b : Block). b.bytes) blocks
 
 -- the calls that were made of them
 abbrev pub calls_of : List Block → ℕ

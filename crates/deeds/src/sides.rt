@@ -5,7 +5,7 @@ ghost use Rattle.std.specs.Arc.{arc_value};
 ghost use Rattle.blockdev.specs.Watching.{Makes};
 ghost use Rattle.deeds.specs.Comes.{Comes};
 ghost use Rattle.deeds.specs.Rules.{Knows, NoneOut};
-ghost use Rattle.deeds.specs.Shown.{AreTold, Settles, calls_of, contents, uncalled};
+ghost use Rattle.deeds.specs.Shown.{AreTold, Settles, bytes_of, calls_of, uncalled};
 ghost use Rattle.deeds.specs.Steps.{IsAt, Stays, IsDevice, IsUndone, IsCarried};
 ghost use Rattle.deeds.specs.Views.{device_in, given_in, home_in};
 ghost use Rattle.deeds.specs.declared.views.Block.{Block};
@@ -31,7 +31,7 @@ pub struct Opened {
 impl Model for Opened {
     ghost use Rattle.std.specs.Prelude.{◌≡◌, map};
     ghost use Rattle.std.specs.Arc.{arc_value};
-    ghost use Rattle.deeds.specs.Shown.{OpenedSeen, contents, uncalled};
+    ghost use Rattle.deeds.specs.Shown.{OpenedSeen, bytes_of, uncalled};
     ghost use Rattle.deeds.specs.Steps.{IsAt, IsDevice, IsDesk};
     ghost use Rattle.deeds.specs.Views.{device_in};
     ghost use Rattle.deeds.specs.declared.views.Place.TheVariants.{Home};
@@ -42,13 +42,13 @@ impl Model for Opened {
 
     ghost coded = { Prim.hlevel (codes, table_id_coded) };
 
-    ghost view = { λ o. record { table = o.device.table_id; told = (device_in o.device.me.0).0; blocks = contents (device_in o.device.me.0).1 } };
+    ghost view = { λ o. record { table = o.device.table_id; told = (device_in o.device.me.0).0; blocks = bytes_of (device_in o.device.me.0).1 } };
 
     ghost invariant = { λ o.
         ((arc_value o.table).shared.table_id ≡ o.device.table_id) × ((arc_value o.again).shared.table_id ≡ o.device.table_id)
         × IsAt o.device.table_id o.desk
-        × IsDevice o.device.me (device_in o.device.me.0).0 (map uncalled (contents (device_in o.device.me.0).1))
-        × IsDesk o.desk.me (device_in o.device.me.0).0 (map Home (map uncalled (contents (device_in o.device.me.0).1))) };
+        × IsDevice o.device.me (device_in o.device.me.0).0 (map uncalled (bytes_of (device_in o.device.me.0).1))
+        × IsDesk o.desk.me (device_in o.device.me.0).0 (map Home (map uncalled (bytes_of (device_in o.device.me.0).1))) };
 }
 
 /// Both sides while the deed of one block is lent. Contracts see what they see before and after.
@@ -63,7 +63,7 @@ pub struct Lent {
 impl Model for Lent {
     ghost use Rattle.std.specs.Prelude.{◌≡◌, map};
     ghost use Rattle.std.specs.Arc.{arc_value};
-    ghost use Rattle.deeds.specs.Shown.{OpenedSeen, OneOut, contents, uncalled};
+    ghost use Rattle.deeds.specs.Shown.{OpenedSeen, OneOut, bytes_of, uncalled};
     ghost use Rattle.deeds.specs.Steps.{IsAt, IsDevice, IsDesk};
     ghost use Rattle.deeds.specs.Views.{device_in, desk_in};
     ghost use Rattle.std.specs.Coded.{codes};
@@ -73,14 +73,14 @@ impl Model for Lent {
 
     ghost coded = { Prim.hlevel (codes, table_id_coded) };
 
-    ghost view = { λ o. record { table = o.device.table_id; told = (device_in o.device.me.0).0; blocks = contents (device_in o.device.me.0).1 } };
+    ghost view = { λ o. record { table = o.device.table_id; told = (device_in o.device.me.0).0; blocks = bytes_of (device_in o.device.me.0).1 } };
 
     ghost invariant = { λ o.
         ((arc_value o.table).shared.table_id ≡ o.device.table_id) × ((arc_value o.again).shared.table_id ≡ o.device.table_id)
         × IsAt o.device.table_id o.desk
-        × IsDevice o.device.me (device_in o.device.me.0).0 (map uncalled (contents (device_in o.device.me.0).1))
+        × IsDevice o.device.me (device_in o.device.me.0).0 (map uncalled (bytes_of (device_in o.device.me.0).1))
         × IsDesk o.desk.me (device_in o.device.me.0).0 (desk_in o.desk.me.0).1
-        × OneOut (map uncalled (contents (device_in o.device.me.0).1)) (desk_in o.desk.me.0).1 };
+        × OneOut (map uncalled (bytes_of (device_in o.device.me.0).1)) (desk_in o.desk.me.0).1 };
 }
 
 /// The state's side: where the deed of each block is. It knows what the device has of each block whose deed is at home.
@@ -421,9 +421,9 @@ impl<B: NamesDeeds> DeviceSide<B> {
     ) -> Report<B>
         requires exists { errand.block < device.old.device.count }
         requires size { length errand.bytes ≡ device.old.device.size }
-        requires contents { AreTold B.told device.old.device (contents self.old) }
+        requires contents { AreTold B.told device.old.device (bytes_of self.old) }
         ensures made { Makes device.old errand result device.new }
-        ensures contents { AreTold B.told device.new.device (contents self.new) }
+        ensures contents { AreTold B.told device.new.device (bytes_of self.new) }
         ensures calls { calls_of self.new ≡ calls_of self.old + 1 }
     {
         let Errand { job, deed, .. } = errand;

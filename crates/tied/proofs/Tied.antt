@@ -12,7 +12,7 @@ use Rattle.pc_types.specs.declared.kind.Kind.TheVariants.{Flush}
 use Rattle.blockdev.specs.Jobs.{Task, FinishedTask}
 use Rattle.cachecore.specs.Replies.{end_of, outcome_of}
 use Rattle.deeds.specs.Rules.{Knows}
-use Rattle.deeds.specs.Shown.{Settles, contents, known, uncalled}
+use Rattle.deeds.specs.Shown.{Settles, bytes_of, known, uncalled}
 use Rattle.deeds.specs.Views.{home_in}
 use Rattle.deeds.specs.declared.views.Block.{Block}
 use Rattle.deeds.specs.declared.views.Given.{Given}
@@ -251,7 +251,7 @@ module _ (files : Catalog) (sizes : Sizes) (name : ℕ) (blocks : List (List ℕ
         (sym (made_noted (event.End kind end) r ∙ made))
         (fate, x, is_here, (tells_it, here (event.End kind end) r next step, refl)))
 
-    device_is : device_after w u x fate.fault fate.lasts ≡ contents (known after)
+    device_is : device_after w u x fate.fault fate.lasts ≡ bytes_of (known after)
     device_is = device_left w u x fate s.left.bytes fate_is.leaves ∙ ap (λ k. slice_set w.device k s.left.bytes) own.block_is
         ∙ ap (λ d. slice_set d finished.block s.left.bytes) t.device ∙ sym (bytes_settled told places after finished s)
 
@@ -279,7 +279,7 @@ module _ (files : Catalog) (sizes : Sizes) (name : ℕ) (blocks : List (List ℕ
   -- of each block that is of no request in flight, a device that the desk knows has what the world has
   pub tied_at : (told : Bool) → IsCovered core places → (device : List Block) → Knows told device places → (k : ℕ)
       → k < core.sizes.blocks → ((i : ℕ) (x : Request) → finmap.get core.requests i ≡ Some x → x.block ≢ k)
-      → slice_get (contents device) k ≡ slice_get w.device k
+      → slice_get (bytes_of device) k ≡ slice_get w.device k
   tied_at told c device knows k low free =
       let home = is_home core places c k low free in
       contents_at device k (home_in places k) (knows.home k (home_in places k) home)
@@ -287,7 +287,7 @@ module _ (files : Catalog) (sizes : Sizes) (name : ℕ) (blocks : List (List ℕ
 
   -- of one that is, it has what the world has, or of a write the write's bytes
   pub tied_busy : IsCovered core places → (device : List Block) → Knows true device places → (t : ℕ) (x : Request)
-      → finmap.get core.requests t ≡ Some x → IsOnItsWay w t x (slice_get (contents device) x.block)
+      → finmap.get core.requests t ≡ Some x → IsOnItsWay w t x (slice_get (bytes_of device) x.block)
   tied_busy c device knows u x there =
       let g = c.asked u x there in
       let o = knows.out x.block g.given g.out in
@@ -307,7 +307,7 @@ module _ (files : Catalog) (sizes : Sizes) (name : ℕ) (blocks : List (List ℕ
 
   -- and with none in flight it is the world's
   pub tied_whole : (told : Bool) → IsCovered core places → (device : List Block) → Knows told device places
-      → core.requests ≡ finmap.empty → contents device ≡ w.device
+      → core.requests ≡ finmap.empty → bytes_of device ≡ w.device
   tied_whole told c device knows resting =
-      ap contents (sym (known_opened device) ∙ ap known (sym (all_home told device places knows (none_out core places c resting))))
+      ap bytes_of (sym (known_opened device) ∙ ap known (sym (all_home told device places knows (none_out core places c resting))))
       ∙ sym t.device

@@ -7,7 +7,7 @@ use Rattle.std.specs.FinMap as map
 use Rattle.pc_types.specs.Limits.{Sizes}
 use Rattle.pc_types.specs.declared.kind.Kind.TheVariants.{Flush}
 use Rattle.blockdev.specs.Jobs.{Task}
-use Rattle.deeds.specs.Shown.{calls_of, contents, known, out_count}
+use Rattle.deeds.specs.Shown.{bytes_of, calls_of, known, out_count}
 use Rattle.deeds.specs.declared.views.Given.{Given}
 use Rattle.deeds.specs.declared.views.Place.{Place}
 use Rattle.deeds.specs.declared.views.Place.TheVariants.{Out}
@@ -91,7 +91,7 @@ pub record Tied (files : Catalog) (sizes : Sizes) (name : ℕ) (blocks : List (L
   pub first : MayBegin files sizes name blocks
   pub goes : GoesTo (world_over files sizes name blocks) history world
   pub core_is : world.core ≡ core
-  pub device : world.device ≡ contents (known places)
+  pub device : world.device ≡ bytes_of (known places)
   -- a write in flight has the bytes of its task
   pub writes : (block : ℕ) (given : Given) → slice_get places block ≡ Some (Out given) → given.task.kind ≡ Flush
       → map.get world.writing given.task.serial ≡ Some given.task.bytes

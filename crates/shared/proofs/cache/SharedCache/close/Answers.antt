@@ -4,7 +4,7 @@ use Rattle.cachecore.specs.Core.{Core}
 use Rattle.pc_types.specs.Limits.{Sizes}
 use Rattle.held.specs.declared.log.Seat.{Seat}
 use Rattle.deeds.specs.Rules.{Knows}
-use Rattle.deeds.specs.Shown.{contents}
+use Rattle.deeds.specs.Shown.{bytes_of}
 use Rattle.tied.proofs.Kept.{kept_calls}
 use Rattle.tied.proofs.Tied.{tied_at, tied_busy, tied_honest}
 use Rattle.held.specs.Shown.{SeatSeen}
@@ -57,7 +57,7 @@ returns-in-Ok-clause-closed g c = (
     world = t.world;
     honest = tied_honest _ _ _ _ _ _ _ t;
     core_is = t.core_is;
-    left = contents c.into_parts-device.result.1;
+    left = bytes_of c.into_parts-device.result.1;
     told = c.into_parts-device.ensures.contents tells;
     each = λ k low free. tied_at _ _ _ _ _ _ _ t g.B.NamesDeeds.told c.in-Ok.ensures.desk c.into_parts-device.result.1 c.close-in-Ok.ensures.knows k
         (subst (λ (s : Sizes). k < s.blocks) (sym c.in-Ok.ensures.core.1) low) free;
