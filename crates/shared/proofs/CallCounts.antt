@@ -1,7 +1,8 @@
 -- How many calls the device made.
-use Rattle.std.proofs.Common.{◌≡◌, ℕ, zero, suc, ◌+◌, ◌<◌, ◌≤◌, ◌⊎◌, List, map as map_list, refl, ap, sym, ◌∙◌, arith, inl, inr}
+use Rattle.std.proofs.Common.{◌≡◌, ℕ, ◌+◌, ◌<◌, ◌≤◌, List, map as map_list, ap, sym, ◌∙◌, arith, inl, inr}
 use Rattle.std.specs.Prelude.{min}
 use Rattle.std.specs.FinMap as map
+use Rattle.std.proofs.Math.Nat.{eq-or-lt_of_le}
 use Rattle.pc_types.specs.declared.kind.Kind.{Kind}
 use Rattle.pc_types.specs.declared.kind.Kind.TheVariants.{Fill, Flush}
 use Rattle.blockdev.specs.Device.{Calls, Outcome, Told, max_calls}
@@ -33,15 +34,6 @@ call_of : (kind : Kind) (old new : Told) (block : ℕ) (before : List ℕ) (r : 
 call_of Fill old new block before r after t = t.call
 call_of Flush old new block before r after t = t.0.call
 
-below_or_at : (n most : ℕ) → n ≤ most → (n < most) ⊎ (n ≡ most)
-below_or_at zero zero few = inr refl
-below_or_at zero (suc most) few = inl (omega arith)
-below_or_at (suc n) zero few = absurd (omega arith)
-below_or_at (suc n) (suc most) few = elim (below_or_at n most (omega arith)) [
-  | inl low ↦ inl (omega (arith, low))
-  | inr full ↦ inr (ap suc full)
-]
-
 counted : (n first more most : ℕ) → n ≡ min (first + more) most → n ≤ most
 counted n first more most is = omega arith
 
@@ -54,10 +46,10 @@ at_most first more n m most is full same = omega arith
 
 counted_on : (first more : ℕ) (old new : Told) (r : Outcome) → HasMade first more old → Calls old r new
     → HasMade first (more + 1) new
-counted_on first more old new r made call = elim (below_or_at old.calls max_calls (counted old.calls first more max_calls made)) [
-  | inl low ↦ one_more first more old.calls new.calls max_calls made low (call.calls low)
-  | inr full ↦ at_most first more old.calls new.calls max_calls made full
+counted_on first more old new r made call = elim (eq-or-lt_of_le (counted old.calls first more max_calls made)) [
+  | inl full ↦ at_most first more old.calls new.calls max_calls made full
       (ap (λ (d : Told). d.calls) (call.exhausted full).1)
+  | inr low ↦ one_more first more old.calls new.calls max_calls made low (call.calls low)
 ]
 
 pub made_on : (first more later : ℕ) (old new : Watch) (job : Task) (done : FinishedTask) → HasMade first more old.device

@@ -58,7 +58,6 @@ impl<B: Naming, D: BlockDevice> Disk<B, D> {
     }
 
     /// Makes the device call of a job. A write is noted.
-    #[tactic(auto, using(crate::proofs::CallCounts::made_on))]
     pub(crate) fn carry_out(&mut self, job: Errand<B>) -> Report<B>
         requires { IsJobFor B.name B.sizes.blocks B.sizes.page job }
         ensures made { Makes self.old job result self.new }
