@@ -4,14 +4,19 @@ use Rattle.std.specs.Prelude.{slice_get, slice_set, Some, IfSome, Ok, Err}
 use Rattle.std.proofs.lemmas.Option.{none-some, same_Some}
 use Rattle.pc_types.specs.declared.kind.Kind.{Kind}
 use Rattle.pc_types.specs.declared.kind.Kind.TheVariants.{Fill, Flush}
+use Rattle.atomic_table.specs.Table.{Me}
 use Rattle.blockdev.specs.Blocks.{block_at}
 use Rattle.blockdev.specs.Device.{Outcome, Told, Writes, with_block}
 use Rattle.blockdev.specs.Jobs.{Task, FinishedTask, Transfers}
 use Rattle.blockdev.specs.Watching.{Watch, Makes}
 use Rattle.deeds.specs.declared.views.Block.{Block}
+use Rattle.deeds.specs.declared.views.Given.{Given}
+use Rattle.deeds.specs.declared.views.View.{View}
 use Rattle.deeds.specs.Comes.{Comes, Leaves}
-use Rattle.deeds.specs.Shown.{AreTold, bytes_of, told_at}
-use Rattle.deeds.proofs.Counts.{contents_at, contents_set}
+use Rattle.deeds.specs.Shown.{AreTold, bytes_of, calls_of, told_at}
+use Rattle.deeds.specs.Steps.{IsDevice}
+use Rattle.deeds.specs.Views.{device_in}
+use Rattle.deeds.proofs.Counts.{calls_set, contents_at, contents_set}
 use Rattle.deeds.proofs.Lists.{set_here}
 
 get_there : (blocks : List (List ℕ)) (k : ℕ) (b : List ℕ) → slice_get blocks k ≡ Some b → block_at blocks k ≡ b
@@ -75,12 +80,31 @@ module _ (told : Bool) (blocks : List Block) (task : Task) (done : FinishedTask)
     block = m.performs.block;
     length = m.performs.length;
     calls = refl;
-    leaves = λ yes. leaves_by old.device new.device task.block task.bytes done.bytes (bytes_of blocks) before.bytes (tells yes)
+    leaves = λ sure. leaves_by old.device new.device task.block task.bytes done.bytes (bytes_of blocks) before.bytes (tells sure)
         (contents_at blocks task.block before at) task.kind done.outcome m.performs.call;
   }
 
   pub call_told : AreTold told new.device (bytes_of (slice_set blocks task.block after_call))
-  call_told yes =
-      told_by old.device new.device task.block task.bytes done.bytes (bytes_of blocks) before.bytes (tells yes)
+  call_told sure =
+      told_by old.device new.device task.block task.bytes done.bytes (bytes_of blocks) before.bytes (tells sure)
       (contents_at blocks task.block before at) task.kind done.outcome m.performs.call
       ∙ ap Some (sym (contents_set blocks task.block after_call))
+
+-- the same of the device's side, which is known by an equation
+pub side_after : (told says : Bool) (me next : Me ℕ View) (side : List Block) (g : Given) (job : Task) (done : FinishedTask) (old new : Watch)
+    → (device_in me.0).1 ≡ side → g.task ≡ job → slice_get (device_in me.0).1 g.task.block ≡ Some g.before → Makes old job done new
+    → AreTold told old.device (bytes_of side)
+    → IsDevice next says (slice_set (device_in me.0).1 g.task.block
+    (record { bytes = told_at new.device.contents g.task.block; calls = g.before.calls + 1 }))
+    → AreTold told new.device (bytes_of (device_in next.0).1) × (calls_of (device_in next.0).1 ≡ calls_of side + 1)
+side_after told says me next side g job done old new view same at m tells is =
+    let blocks : List Block = (device_in me.0).1 in
+    let left : Block = record { bytes = told_at new.device.contents g.task.block; calls = g.before.calls + 1 } in
+    let there : (device_in next.0).1 ≡ slice_set blocks g.task.block left = ap (λ (x : Me ℕ View). (device_in x.0).1) is in
+    let here : AreTold told old.device (bytes_of blocks) =
+    subst (λ (s : List Block). AreTold told old.device (bytes_of s)) (sym view) tells in
+    let made : Makes old g.task done new = subst (λ (j : Task). Makes old j done new) (sym same) m in (
+      subst (λ (s : List Block). AreTold told new.device (bytes_of s)) (sym there)
+          (call_told told blocks g.task done old new g.before here made at),
+      ap calls_of there ∙ calls_set blocks g.task.block g.before left at refl ∙ ap (λ s. calls_of s + 1) view,
+    )

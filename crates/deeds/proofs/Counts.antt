@@ -170,5 +170,5 @@ accounts told (b ∷ bs) (p ∷ ps) k =
 
 pub told_uncalled : (told : Bool) (device : Told) (blocks found : List (List ℕ)) (side : List Block) → AreTold told device blocks
     → side ≡ map uncalled found → found ≡ blocks → AreTold told device (bytes_of side)
-told_uncalled told device blocks found side tells is same yes =
-    tells yes ∙ ap Some (sym (ap bytes_of is ∙ contents_uncalled found ∙ same))
+told_uncalled told device blocks found side tells is same sure =
+    tells sure ∙ ap Some (sym (ap bytes_of is ∙ contents_uncalled found ∙ same))
