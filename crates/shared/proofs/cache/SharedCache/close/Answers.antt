@@ -4,7 +4,7 @@ use Rattle.cachecore.specs.Core.{Core}
 use Rattle.pc_types.specs.Limits.{Sizes}
 use Rattle.held.specs.declared.log.Seat.{Seat}
 use Rattle.deeds.specs.Rules.{Knows}
-use Rattle.deeds.specs.Shown.{bytes_of}
+use Rattle.deeds.specs.Shown.{bytes_of, calls_of}
 use Rattle.tied.proofs.Kept.{kept_calls}
 use Rattle.tied.proofs.Tied.{tied_at, tied_busy, tied_honest}
 use Rattle.held.specs.Shown.{SeatSeen}
@@ -64,9 +64,10 @@ returns-in-Ok-clause-closed g c = (
     busy = λ u x there. tied_busy _ _ _ _ _ _ _ t c.in-Ok.ensures.desk c.into_parts-device.result.1
         (subst (λ b. Knows b c.into_parts-device.result.1 c.in-Ok.desk) tells c.close-in-Ok.ensures.knows) u x there;
   },
-  called_for _ _ _ _ _ c.into_parts-device.ensures.made (kept_calls g.B.NamesDeeds.told c.drain.new.state.log.history
-      c.in-Ok.core.state c.in-Ok.desk c.into_parts-device.result.1 c.in-Ok.ensures.desk c.in-Ok.ensures.counted
-      c.close-in-Ok.ensures.knows),
+  called_for g.B.Naming.calls (calls_of c.into_parts-device.result.1) c.drain.new.state.log.history c.in-Ok.core.state
+      (g.D.BlockDevice.told c.into_parts-device.result.0) c.into_parts-device.ensures.made
+      (kept_calls g.B.NamesDeeds.told c.drain.new.state.log.history c.in-Ok.core.state c.in-Ok.desk
+      c.into_parts-device.result.1 c.in-Ok.ensures.desk c.in-Ok.ensures.counted c.close-in-Ok.ensures.knows),
 )
 
 -- the jobs that it took were ended all the same
