@@ -1,12 +1,12 @@
 -- What a device call leaves of its block, by what the device tells before and after.
-use Rattle.std.proofs.Common.{◌≡◌, ℕ, zero, suc, ◌+◌, ◌⊎◌, Bool, true, List, [], ◌∷◌, refl, ap, sym, ◌∙◌, subst, inl, inr, ⊎_elim}
+use Rattle.std.proofs.Common.{◌≡◌, ℕ, zero, suc, ◌+◌, Bool, List, [], ◌∷◌, refl, ap, sym, ◌∙◌, subst, inl, inr, ⊎_elim}
 use Rattle.std.specs.Prelude.{slice_get, slice_set, Some, IfSome, Ok, Err}
 use Rattle.std.proofs.lemmas.Option.{none-some, same_Some}
 use Rattle.pc_types.specs.declared.kind.Kind.{Kind}
 use Rattle.pc_types.specs.declared.kind.Kind.TheVariants.{Fill, Flush}
 use Rattle.atomic_table.specs.Table.{Me}
 use Rattle.blockdev.specs.Blocks.{block_at}
-use Rattle.blockdev.specs.Device.{Outcome, Told, Writes, with_block}
+use Rattle.blockdev.specs.Device.{Outcome, Told, with_block}
 use Rattle.blockdev.specs.Jobs.{Task, FinishedTask, Transfers}
 use Rattle.blockdev.specs.Watching.{Watch, Makes}
 use Rattle.deeds.specs.declared.views.Block.{Block}

@@ -1,6 +1,6 @@
 -- The bytes of blocks, the calls of them, and how many deeds are out, after one block or place was set.
-use Rattle.std.proofs.Common.{◌≡◌, ◌≢◌, ◌⊎◌, ℕ, zero, suc, ◌+◌, ◌<◌, ◌≤◌, Bool, true, false, cond, List, [], ◌∷◌, map, length, refl, ap, sym, ◌∙◌, subst, arith, inl, inr, ⊎_elim}
-use Rattle.std.specs.Prelude.{count_by, slice_get, slice_set, sum_by, Some}
+use Rattle.std.proofs.Common.{◌≡◌, ◌⊎◌, ℕ, zero, suc, ◌+◌, ◌≤◌, Bool, cond, List, [], ◌∷◌, map, length, refl, ap, sym, ◌∙◌, arith, inl, inr, ⊎_elim}
+use Rattle.std.specs.Prelude.{slice_get, slice_set, Some}
 use Rattle.std.proofs.lemmas.List.Sums.{sum_by-cons}
 use Rattle.std.proofs.lemmas.Option.{none-some, same_Some}
 use Rattle.blockdev.specs.Device.{Told}
