@@ -15,6 +15,7 @@ pub mod Answered
 pub mod Letting
 pub mod Sparing
 pub mod Wanting
+pub mod CallCounts
 pub mod Carrying
 pub mod Settling
 pub mod ShardBack

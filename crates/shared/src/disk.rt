@@ -3,8 +3,8 @@
 ghost use Rattle.std.specs.Prelude.{◌≡◌, ◌<◌, IfOk, IsOk, Ok, OnOk, false, length, true};
 ghost use Rattle.blockdev.specs.Jobs.{IsJobFor};
 ghost use Rattle.blockdev.specs.Watching.{Clears, Makes, first_watch};
-ghost use Rattle.deeds.specs.Shown.{AreTold};
-ghost use Rattle.shared.specs.Keeps.{IsDisk, answer_of};
+ghost use Rattle.deeds.specs.Shown.{AreTold, bytes_of, calls_of};
+ghost use Rattle.shared.specs.Keeps.{HasMade, IsDisk, answer_of};
 
 use blockdev::{BlockDevice, Watched};
 use deeds::sides::{DeviceSide, Errand, Report};
@@ -23,21 +23,22 @@ pub struct Disk<B: Naming, D: BlockDevice> {
 
 impl<B: Naming, D: BlockDevice> Model for Disk<B, D> {
     ghost use Rattle.blockdev.specs.Watching.{Watch};
-    ghost use Rattle.deeds.specs.Shown.{AreTold};
-    ghost use Rattle.shared.specs.Keeps.{IsDisk};
+    ghost use Rattle.deeds.specs.Shown.{AreTold, bytes_of, calls_of};
+    ghost use Rattle.shared.specs.Keeps.{HasMade, IsDisk};
 
     ghost Value = { Watch };
 
     ghost view = { λ d. d.device };
 
-    ghost invariant = { λ d. IsDisk B.sizes d.device.device × AreTold B.told d.device.device d.side };
+    ghost invariant = { λ d. IsDisk B.sizes d.device.device × AreTold B.told d.device.device (bytes_of d.side) × HasMade B.calls (calls_of d.side) d.device.device };
 }
 
 impl<B: Naming, D: BlockDevice> Disk<B, D> {
     /// A device that may have been written to before.
     pub(crate) fn of(device: D, side: DeviceSide<B>) -> Disk<B, D>
         requires fits { IsDisk B.sizes (D.told device) }
-        requires told { AreTold B.told (D.told device) side }
+        requires told { AreTold B.told (D.told device) (bytes_of side) }
+        requires made { HasMade B.calls (calls_of side) (D.told device) }
         ensures { result ≡ first_watch (D.told device) }
     {
         Disk {
@@ -50,7 +51,8 @@ impl<B: Naming, D: BlockDevice> Disk<B, D> {
     pub(crate) fn into_parts(self) -> (D, DeviceSide<B>)
         ensures told { D.told result.0 ≡ self.device }
         ensures fits { IsDisk B.sizes (D.told result.0) }
-        ensures contents { AreTold B.told (D.told result.0) result.1 }
+        ensures contents { AreTold B.told (D.told result.0) (bytes_of result.1) }
+        ensures made { HasMade B.calls (calls_of result.1) (D.told result.0) }
     {
         (self.device.into_device(), self.side)
     }
