@@ -23,3 +23,4 @@ pub record IsMadeOf (sizes : Sizes) (callers name : ℕ) (whole : Room) (device 
   pub room : n.whole ≡ whole
   pub told : n.told ≡ is_some device.contents
   pub blocks : AreBlocksOf n.told n.blocks device
+  pub calls : n.calls ≡ device.calls

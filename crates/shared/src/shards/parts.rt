@@ -64,6 +64,7 @@ impl<D: BlockDevice, T: Trail> Model for OneParts<D, T> {
       seats = o.parts.held.log.made;
       whole = o.parts.held.log.room;
       blocks = o.parts.deeds.blocks;
+      calls = (D.told o.parts.device).calls;
       deeds = o.parts.deeds.table;
       told = o.parts.deeds.told;
       ring = Some o.parts.ring;
@@ -92,6 +93,7 @@ impl<D: BlockDevice, T: Trail> OneParts<D, T> {
         ensures device { IsDisk self.sizes (D.told result.device) }
         ensures deeds { (result.deeds.table ≡ self.deeds) × (result.deeds.told ≡ self.told) × (result.deeds.blocks ≡ self.blocks) }
         ensures blocks { AreBlocksOf self.told self.blocks (D.told result.device) }
+        ensures calls { (D.told result.device).calls ≡ self.calls }
     {
         self.parts
     }
