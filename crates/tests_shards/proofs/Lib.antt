@@ -1,0 +1,4 @@
+pub mod Hands
+pub mod Seen
+pub mod Strangers
+pub mod Told
