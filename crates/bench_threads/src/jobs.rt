@@ -5,6 +5,7 @@
 ghost use Rattle.std.specs.Prelude.{◌≡◌, ◌<◌, [], replicate, IfOk, OnOk};
 ghost use Rattle.std.specs.Thread.{IsSync};
 ghost use Rattle.blockdev.specs.Jobs.{IsJobFor};
+ghost use Rattle.deeds.specs.Shown.{uncalled};
 ghost use Rattle.deeds.specs.declared.views.Place.TheVariants.{Home};
 ghost use Rattle.ring.specs.Order.{IsParcelFor};
 ghost use Rattle.ring.specs.Serving.{Carries, Serves};
@@ -167,7 +168,7 @@ fn push_each<B: NamesDeeds, W: Wait>(
     ring: &Ring,
     pass: &mut RingPass,
 ) -> Result<(), Fault>
-    requires home { desk.old ≡ replicate 64 (Home []) }
+    requires home { desk.old ≡ replicate 64 (Home (uncalled [])) }
     requires pass { Serves ring.now pass.old × Carries 7 64 geometry.now.page B.deeds pass.old }
     ensures { OnOk result (Serves ring.now pass.new × Carries 7 64 geometry.now.page B.deeds pass.new) }
 {

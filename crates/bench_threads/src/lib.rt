@@ -11,7 +11,7 @@ pub mod blocks;
 mod cached;
 pub mod holds;
 pub mod jobs;
-mod numbers;
+pub mod numbers;
 mod readers;
 pub mod reads;
 mod rounds;

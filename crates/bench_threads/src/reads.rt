@@ -318,6 +318,7 @@ fn time_over<B: Naming + Send + Sync, R: Threads + Wait + Clock + Sync>(
     requires device { IsDisk B.sizes parts.device }
     requires deeds { (parts.deeds.table ≡ B.deeds) × (parts.deeds.told ≡ B.told) × (parts.deeds.blocks ≡ B.blocks) }
     requires blocks { AreBlocksOf B.told B.blocks parts.device }
+    requires calls { parts.device.calls ≡ B.calls }
     requires seats { AreFresh B.table B.name seats.items }
 {
     let (cache, own) = SharedCache::<B, MemDevice, NoTrail>::of(alloc, parts);

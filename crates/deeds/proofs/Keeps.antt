@@ -5,6 +5,7 @@ use Rattle.std.proofs.lemmas.Option.{none-some, same_Some}
 use mathlib.Core.Option.{some, some-injective, some-ne-none}
 use lib.ListN.{get_elem?}
 use Rattle.atomic_table.specs.Table.{State, Me, keeps, Allows, Splits, Joins, opening}
+use Rattle.deeds.specs.declared.views.Block.{Block}
 use Rattle.deeds.specs.declared.views.Given.{Given}
 use Rattle.deeds.specs.declared.views.Done.{Done}
 use Rattle.deeds.specs.declared.views.Deed.{Deed}
@@ -15,38 +16,38 @@ use Rattle.blockdev.specs.Device.{Outcome}
 use Rattle.pc_types.specs.declared.kind.Kind.{Kind}
 use Rattle.pc_types.specs.declared.kind.Kind.TheVariants.{Fill, Flush}
 use Rattle.deeds.specs.Comes.{Comes, Leaves, MayHave}
-use Rattle.deeds.specs.Views.{block_of, undone, carried, spent, opening_view, desk_view, both_view, device_with, desk_with, first_of, together, without_device, device_alone, without_deed, deed_alone}
-use Rattle.deeds.specs.Rules.{bytes_now, FitsDeed, Fits, HasOut, Part, the_device, the_desk, the_deed, Has, IsKept, Opened, GivenOut, Carried, TakenBack, Compared, Knows, NoneOut}
+use Rattle.deeds.specs.Views.{block_of, no_block, undone, carried, spent, opening_view, desk_view, both_view, device_with, desk_with, first_of, together, without_device, device_alone, without_deed, deed_alone}
+use Rattle.deeds.specs.Rules.{block_now, FitsDeed, Fits, HasOut, Part, the_device, the_desk, the_deed, Has, IsKept, Opened, GivenOut, Carried, TakenBack, Compared, Knows, NoneOut}
 use Rattle.deeds.proofs.Alone.{Each, Nobody, each_set, each_push, alone_set, alone_cut, alone_join, there_before}
 use Rattle.deeds.proofs.Lists.{get_set, set_here, set_else, mapped_at}
 
 abbrev Blocks : Type 0
-Blocks = List (List ℕ)
+Blocks = List Block
 
 -- ---- small facts
 
 abbrev IsOut : Place → Type 0
-IsOut (Home bytes) = ⊥
+IsOut (Home now) = ⊥
 IsOut (Out g) = Unit {0}
 
-abbrev bytes_in : Place → List ℕ
-bytes_in (Home bytes) = bytes
-bytes_in (Out g) = []
+abbrev block_in : Place → Block
+block_in (Home now) = now
+block_in (Out g) = no_block
 
 abbrev given_of : Place → Option Given
-given_of (Home bytes) = None
+given_of (Home now) = None
 given_of (Out g) = Some g
 
 same_given : (g h : Given) → Out g ≡ Out h → g ≡ h
 same_given g h e = same_Some g h (ap given_of e)
 
-out_home : (g : Given) (bytes : List ℕ) → Out g ≡ Home bytes → ⊥
-out_home g bytes e = subst IsOut e tt
+out_home : (g : Given) (now : Block) → Out g ≡ Home now → ⊥
+out_home g now e = subst IsOut e tt
 
 -- a block's deed is not both out and at home
-apart : (places : List Place) (k : ℕ) (g : Given) (bytes : List ℕ) → slice_get places k ≡ Some (Out g)
-    → slice_get places k ≡ Some (Home bytes) → ⊥
-apart places k g bytes e h = out_home g bytes (same_Some _ _ (sym e ∙ h))
+apart : (places : List Place) (k : ℕ) (g : Given) (now : Block) → slice_get places k ≡ Some (Out g)
+    → slice_get places k ≡ Some (Home now) → ⊥
+apart places k g now e h = out_home g now (same_Some _ _ (sym e ∙ h))
 
 if_some_on : {A : Type 0} (o : Option A) (P Q : A → Type 0) → ((x : A) → o ≡ Some x → P x → Q x) → IfSome o P → IfSome o Q
 if_some_on None P Q f p = tt
@@ -81,10 +82,11 @@ nothing (the_deed k) h = none-some k h
 -- what came of a deed's call may be had by its block
 comes_had : (told : Bool) (g : Given) (x : Done) → Comes told g.task g.before x.finished x.left
     → MayHave told g.task g.before x.left
-comes_had told g x c tells = go g.task.kind refl x.finished.outcome (c.leaves tells)
+comes_had told g x c = inr (c.calls, λ tells. go g.task.kind refl x.finished.outcome (c.leaves tells))
   where
-    go : (k : Kind) → g.task.kind ≡ k → (r : Outcome) → Leaves k g.before g.task.bytes r x.finished.bytes x.left
-        → (x.left ≡ g.before) ⊎ ((g.task.kind ≡ Flush) × (x.left ≡ g.task.bytes))
+    go : (k : Kind) → g.task.kind ≡ k → (r : Outcome)
+        → Leaves k g.before.bytes g.task.bytes r x.finished.bytes x.left.bytes
+        → (x.left.bytes ≡ g.before.bytes) ⊎ ((g.task.kind ≡ Flush) × (x.left.bytes ≡ g.task.bytes))
     go Fill is r l = inl l.0
     go Flush is (Ok u) l = inr (is, l.1)
     go Flush is (Err c) l = ⊎_elim (λ e. inl e) (λ e. inr (is, e)) l.2
@@ -114,9 +116,9 @@ other_place : (told : Bool) (blocks : Blocks) (places : List Place) (k : ℕ) (p
     → FitsDeed told blocks places d → FitsDeed told blocks (slice_set places k p) d
 other_place told blocks places k p d n f = (set_else places k (block_of d) p (Out d.given) n f.0, f.1, f.2)
 
-other_block : (told : Bool) (blocks : Blocks) (places : List Place) (k : ℕ) (bytes : List ℕ) (d : Deed)
-    → block_of d ≢ k → FitsDeed told blocks places d → FitsDeed told (slice_set blocks k bytes) places d
-other_block told blocks places k bytes d n f = (f.0, set_else blocks k (block_of d) bytes _ n f.1, f.2)
+other_block : (told : Bool) (blocks : Blocks) (places : List Place) (k : ℕ) (now : Block) (d : Deed)
+    → block_of d ≢ k → FitsDeed told blocks places d → FitsDeed told (slice_set blocks k now) places d
+other_block told blocks places k now d n f = (f.0, set_else blocks k (block_of d) now _ n f.1, f.2)
 
 -- ---- cut and joined
 
@@ -237,14 +239,14 @@ gives slots id told places g c home s r _ at _ =
         blocks = r.blocks;
         places = places';
         count = length-set r.places k (Out g) ∙ r.count;
-        home = λ block bytes h. ⊎_elim
-            (λ (e : (block ≡ k) × (Out g ≡ Home bytes)). absurd (out_home g bytes e.1))
-            (λ (e : (block ≢ k) × (slice_get r.places block ≡ Some (Home bytes))). r.home block bytes e.1)
-            (get_set r.places k block (Out g) (Home bytes) h);
+        home = λ block now h. ⊎_elim
+            (λ (e : (block ≡ k) × (Out g ≡ Home now)). absurd (out_home g now e.1))
+            (λ (e : (block ≢ k) × (slice_get r.places block ≡ Some (Home now))). r.home block now e.1)
+            (get_set r.places k block (Out g) (Home now) h);
         out = λ block x h. ⊎_elim
             (λ (e : (block ≡ k) × (Out g ≡ Out x)). subst (λ (y : Given). HasOut r.told r.blocks block y)
             (same_given g x e.1)
-            (g.before, ap (λ j. slice_get r.blocks j) e.0 ∙ r.home k g.before home', λ _. inl refl))
+            (g.before, ap (λ j. slice_get r.blocks j) e.0 ∙ r.home k g.before home', inl refl))
             (λ (e : (block ≢ k) × (slice_get r.places block ≡ Some (Out x))). r.out block x e.1)
             (get_set r.places k block (Out g) (Out x) h);
         each = each_set (Fits r.told r.blocks places') s.views id w (
@@ -293,8 +295,8 @@ carries slots id told blocks g x c comes s r _ at _ =
         blocks = blocks';
         places = r.places;
         count = r.count ∙ sym (length-set r.blocks k x.left);
-        home = λ block bytes h. set_else r.blocks k block x.left bytes
-            (λ is. apart r.places k g bytes out (ap (λ j. slice_get r.places j) (sym is) ∙ h)) (r.home block bytes h);
+        home = λ block now h. set_else r.blocks k block x.left now
+            (λ is. apart r.places k g now out (ap (λ j. slice_get r.places j) (sym is) ∙ h)) (r.home block now h);
         out = λ block y h. ⊎_elim
             (λ (is : block ≡ k). subst (λ (z : Given). HasOut r.told blocks' block z)
             (same_given g y (same_Some _ _ (sym out ∙ ap (λ j. slice_get r.places j) (sym is) ∙ h))) (
@@ -336,13 +338,13 @@ pub takes_back : (slots id : ℕ) (told : Bool) (places : List Place) (d : Deed)
     → Allows IsKept slots id (desk_with told places d, c) 0 (λ n. n) (λ n. TakenBack (desk_with told places d, c))
 takes_back slots id told places d c s r _ at _ =
     let k : ℕ = block_of d in
-    let bytes : List ℕ = bytes_now d.given d.done in
+    let now : Block = block_now d.given d.done in
     let old : View = desk_with told places d in
     let mine = r.each id old at in
     let t : told ≡ r.told = ap (λ (x : Bool × List Place). x.0) mine.1 in
     let same : places ≡ r.places = ap (λ (x : Bool × List Place). x.1) mine.1 in
-    let places' : List Place = slice_set r.places k (Home bytes) in
-    let w : View = desk_view told (slice_set places k (Home bytes)) in (
+    let places' : List Place = slice_set r.places k (Home now) in
+    let w : View = desk_view told (slice_set places k (Home now)) in (
       w,
       keeps,
       tt,
@@ -350,24 +352,24 @@ takes_back slots id told places d c s r _ at _ =
         told = r.told;
         blocks = r.blocks;
         places = places';
-        count = length-set r.places k (Home bytes) ∙ r.count;
+        count = length-set r.places k (Home now) ∙ r.count;
         home = λ block there h. ⊎_elim
-            (λ (e : (block ≡ k) × (Home bytes ≡ Home there)).
-            ap (λ j. slice_get r.blocks j) e.0 ∙ mine.2.1 ∙ ap (λ p. Some (bytes_in p)) e.1)
+            (λ (e : (block ≡ k) × (Home now ≡ Home there)).
+            ap (λ j. slice_get r.blocks j) e.0 ∙ mine.2.1 ∙ ap (λ p. Some (block_in p)) e.1)
             (λ (e : (block ≢ k) × (slice_get r.places block ≡ Some (Home there))). r.home block there e.1)
-            (get_set r.places k block (Home bytes) (Home there) h);
+            (get_set r.places k block (Home now) (Home there) h);
         out = λ block g h. ⊎_elim
-            (λ (e : (block ≡ k) × (Home bytes ≡ Out g)). absurd (out_home g bytes (sym e.1)))
+            (λ (e : (block ≡ k) × (Home now ≡ Out g)). absurd (out_home g now (sym e.1)))
             (λ (e : (block ≢ k) × (slice_get r.places block ≡ Some (Out g))). r.out block g e.1)
-            (get_set r.places k block (Home bytes) (Out g) h);
+            (get_set r.places k block (Home now) (Out g) h);
         each = each_set (Fits r.told r.blocks places') s.views id w
-            (tt, (λ i. (t i, slice_set (same i) k (Home bytes))), tt)
+            (tt, (λ i. (t i, slice_set (same i) k (Home now))), tt)
             (λ j u n e. still r.told r.blocks r.blocks r.places places' u (r.each j u e) (λ _. refl)
             (λ h. absurd (n (r.alone the_desk j id u old e at h refl)))
-            (λ other h f. other_place r.told r.blocks r.places k (Home bytes) other
+            (λ other h f. other_place r.told r.blocks r.places k (Home now) other
             (λ is. n (r.alone (the_deed k) j id u old e at (subst (λ b. Has (the_deed b) u) is h) refl)) f));
         alone = alone_set s.views id old w at
-            (own_taken told places (slice_set places k (Home bytes)) d s.views) r.alone;
+            (own_taken told places (slice_set places k (Home now)) d s.views) r.alone;
       },
       (
         refl,
@@ -436,8 +438,8 @@ opens slots id told blocks c s r _ at _ =
         blocks = blocks;
         places = map Home blocks;
         count = length_mapped Home blocks;
-        home = λ block bytes h. let m = mapped_at Home blocks block (Home bytes) h in
-            m.1 ∙ ap (λ p. Some (bytes_in p)) m.2;
+        home = λ block now h. let m = mapped_at Home blocks block (Home now) h in
+            m.1 ∙ ap (λ p. Some (block_in p)) m.2;
         out = λ block g h. let m = mapped_at Home blocks block (Out g) h in absurd (out_home g m.0 (sym m.2));
         each = each_set P s.views id w (refl, refl, tt) (λ j u n e. let f = r.each j u e in (
           if_some_on u.device (λ d. d ≡ (r.told, r.blocks)) (λ d. d ≡ (told, blocks))
@@ -464,7 +466,7 @@ begins = record {
   blocks = [];
   places = [];
   count = refl;
-  home = λ block bytes h. absurd (none-some (Home bytes) h);
+  home = λ block now h. absurd (none-some (Home now) h);
   out = λ block g h. absurd (none-some (Out g) h);
   each = one;
   alone = λ p i j u v e f h k. first i u e ∙ sym (first j v f);
@@ -521,9 +523,9 @@ all_home told [] [] k n = refl
 all_home told [] (p ∷ ps) k n = absurd (let e = k.count in omega arith)
 all_home told (b ∷ bs) [] k n = absurd (let e = k.count in omega arith)
 all_home told (b ∷ bs) (Out g ∷ ps) k n = absurd (n 0 g refl)
-all_home told (b ∷ bs) (Home bytes ∷ ps) k n =
+all_home told (b ∷ bs) (Home now ∷ ps) k n =
     let more : length ps ≡ length bs = let e = k.count in omega arith in
     let rest = all_home told bs ps
     (record { count = more; home = λ block x h. k.home (suc block) x h; out = λ block g h. k.out (suc block) g h })
     (λ block g h. n (suc block) g h) in
-    λ i. Home (same_Some bytes b (sym (k.home 0 bytes refl)) i) ∷ rest i
+    λ i. Home (same_Some now b (sym (k.home 0 now refl)) i) ∷ rest i

@@ -6,6 +6,7 @@ use lib.ListN.{get_elem?}
 use Rattle.atomic_table.specs.Table.{State, Me}
 use Rattle.deeds.specs.Comes.{Comes, MayHave}
 use Rattle.deeds.specs.Views.{block_of, undone, carried, both_view}
+use Rattle.deeds.specs.declared.views.Block.{Block}
 use Rattle.deeds.specs.declared.views.Given.{Given}
 use Rattle.deeds.specs.declared.views.Done.{Done}
 use Rattle.deeds.specs.declared.views.Deed.{Deed}
@@ -13,26 +14,26 @@ use Rattle.deeds.specs.declared.views.Place.{Place}
 use Rattle.deeds.specs.declared.views.Place.TheVariants.{Home, Out}
 use Rattle.deeds.specs.declared.views.View.{View}
 
--- what a block has whose deed is out: what it had when the deed was given, until the call, and then what that left
-abbrev pub bytes_now : Given → Option Done → List ℕ
-bytes_now g None = g.before
-bytes_now g (Some x) = x.left
+-- what the device has of a block whose deed is out: what it had when the deed was given, until the call, and then what that left
+abbrev pub block_now : Given → Option Done → Block
+block_now g None = g.before
+block_now g (Some x) = x.left
 
--- the deed is out at the desk, for this; its block has these bytes; and what came of its call may come of it
-abbrev pub FitsDeed : Bool → List (List ℕ) → List Place → Deed → Type 0
+-- the deed is out at the desk, for this; the device has this of its block; and what came of its call may come of it
+abbrev pub FitsDeed : Bool → List Block → List Place → Deed → Type 0
 FitsDeed told blocks places d =
     (slice_get places (block_of d) ≡ Some (Out d.given))
-    × (slice_get blocks (block_of d) ≡ Some (bytes_now d.given d.done))
+    × (slice_get blocks (block_of d) ≡ Some (block_now d.given d.done))
     × IfSome d.done (λ x. Comes told d.given.task d.given.before x.finished x.left)
 
-abbrev pub Fits : Bool → List (List ℕ) → List Place → View → Type 0
+abbrev pub Fits : Bool → List Block → List Place → View → Type 0
 Fits told blocks places v =
     IfSome v.device (λ d. d ≡ (told, blocks)) × IfSome v.desk (λ d. d ≡ (told, places))
     × IfSome v.deed (FitsDeed told blocks places)
 
 -- what the device has of a block whose deed is out for this
-abbrev pub HasOut : Bool → List (List ℕ) → ℕ → Given → Type 0
-HasOut told blocks block g = (bytes : List ℕ) × (slice_get blocks block ≡ Some bytes) × MayHave told g.task g.before bytes
+abbrev pub HasOut : Bool → List Block → ℕ → Given → Type 0
+HasOut told blocks block g = (now : Block) × (slice_get blocks block ≡ Some now) × MayHave told g.task g.before now
 
 -- what only one view may have: the device's side, the desk, the deed of a block
 pub data Part : Type 0 where
@@ -47,12 +48,11 @@ Has (the_deed block) v = option_map block_of v.deed ≡ Some block
 
 pub record IsKept (s : State ℕ View) : Type 0 where
   pub told : Bool
-  pub blocks : List (List ℕ)
+  pub blocks : List Block
   pub places : List Place
   pub count : length places ≡ length blocks
-  -- a deed that is at home has its block's bytes
-  pub home : (block : ℕ) (bytes : List ℕ) → slice_get places block ≡ Some (Home bytes)
-      → slice_get blocks block ≡ Some bytes
+  -- a deed that is at home has what the device has of its block
+  pub home : (block : ℕ) (now : Block) → slice_get places block ≡ Some (Home now) → slice_get blocks block ≡ Some now
   -- and one that is out has what it had, or what its call may have left
   pub out : (block : ℕ) (g : Given) → slice_get places block ≡ Some (Out g) → HasOut told blocks block g
   pub each : (at : ℕ) (v : View) → get_elem? s.views at ≡ some v → Fits told blocks places v
@@ -62,11 +62,11 @@ pub record IsKept (s : State ℕ View) : Type 0 where
 
 -- ---- what the steps tell
 
--- all deeds are at home, each with its block's bytes
-abbrev pub OpenedTo : Bool → List (List ℕ) → View → Type 0
+-- all deeds are at home, each with what the device has of its block
+abbrev pub OpenedTo : Bool → List Block → View → Type 0
 OpenedTo told blocks after = after ≡ both_view (told, blocks) (told, map Home blocks)
 
-abbrev pub Opened : Bool → List (List ℕ) → Me ℕ View → Me ℕ View → Type 0
+abbrev pub Opened : Bool → List Block → Me ℕ View → Me ℕ View → Type 0
 Opened told blocks before after = (after.1 ≡ before.1) × OpenedTo told blocks after.0
 
 -- the deed is out
@@ -78,8 +78,8 @@ GivenFrom g before None after = Unit {0}
 abbrev pub GivenOut : Given → Me ℕ View → Me ℕ View → Type 0
 GivenOut g before after = (after.1 ≡ before.1) × GivenFrom g before.0 before.0.desk after.0
 
--- the block had the bytes that it had when the deed was given, and the deed's call was made
-abbrev pub CarriedFrom : Done → View → Option (Bool × List (List ℕ)) → Option Deed → View → Type 0
+-- the device had of the block what it had when the deed was given, and the deed's call was made
+abbrev pub CarriedFrom : Done → View → Option (Bool × List Block) → Option Deed → View → Type 0
 CarriedFrom x before (Some (told, blocks)) (Some d) after =
     (slice_get blocks (block_of d) ≡ Some d.given.before)
     × (after ≡ record before { device = Some (told, slice_set blocks (block_of d) x.left); deed = Some (carried d.given x) })
@@ -94,7 +94,7 @@ TakenFrom before (Some (told, places)) (Some d) after =
     (slice_get places (block_of d) ≡ Some (Out d.given))
     × IfSome d.done (λ x. Comes told d.given.task d.given.before x.finished x.left)
     × (after ≡ record before {
-      desk = Some (told, slice_set places (block_of d) (Home (bytes_now d.given d.done)));
+      desk = Some (told, slice_set places (block_of d) (Home (block_now d.given d.done)));
       deed = None;
     })
 TakenFrom before ps d after = Unit {0}
@@ -102,19 +102,18 @@ TakenFrom before ps d after = Unit {0}
 abbrev pub TakenBack : Me ℕ View → Me ℕ View → Type 0
 TakenBack before after = (after.1 ≡ before.1) × TakenFrom before.0 before.0.desk before.0.deed after.0
 
--- the desk knows what the device has of each block: of one whose deed is at home these bytes, and of one whose deed is out
+-- the desk knows what the device has of each block: of one whose deed is at home what that has, and of one whose deed is out
 -- what it had, or what the deed's call may have left
-pub record Knows (told : Bool) (blocks : List (List ℕ)) (places : List Place) : Type 0 where
+pub record Knows (told : Bool) (blocks : List Block) (places : List Place) : Type 0 where
   pub count : length places ≡ length blocks
-  pub home : (block : ℕ) (bytes : List ℕ) → slice_get places block ≡ Some (Home bytes)
-      → slice_get blocks block ≡ Some bytes
+  pub home : (block : ℕ) (now : Block) → slice_get places block ≡ Some (Home now) → slice_get blocks block ≡ Some now
   pub out : (block : ℕ) (g : Given) → slice_get places block ≡ Some (Out g) → HasOut told blocks block g
 
 -- each deed is at home
 abbrev pub NoneOut : List Place → Type 0
 NoneOut places = (block : ℕ) (g : Given) → slice_get places block ≢ Some (Out g)
 
-abbrev pub ComparedFrom : Option (Bool × List (List ℕ)) → Option (Bool × List Place) → Type 0
+abbrev pub ComparedFrom : Option (Bool × List Block) → Option (Bool × List Place) → Type 0
 ComparedFrom (Some device) (Some desk) = Knows device.0 device.1 desk.1
 ComparedFrom bs ps = Unit {0}
 

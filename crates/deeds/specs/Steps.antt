@@ -4,6 +4,7 @@ use Rattle.atomic_table.specs.declared.shared.Seat.{Seat}
 use Rattle.atomic_table.specs.Seated.{TableId}
 use Rattle.atomic_table.specs.Table.{Me}
 use Rattle.deeds.specs.Views.{device_view, desk_view, deed_view, both_view, device_with, desk_with, undone, carried}
+use Rattle.deeds.specs.declared.views.Block.{Block}
 use Rattle.deeds.specs.declared.views.Given.{Given}
 use Rattle.deeds.specs.declared.views.Done.{Done}
 use Rattle.deeds.specs.declared.views.Deed.{Deed}
@@ -19,7 +20,7 @@ abbrev pub Stays : Seat ℕ View → Seat ℕ View → Type 0
 Stays before after = (after.table_id ≡ before.table_id) × (after.id ≡ before.id)
 
 -- what a pass has: the device's side, the desk, or a deed, whose call is still to be made or was made
-abbrev pub IsDevice : Me ℕ View → Bool → List (List ℕ) → Type 0
+abbrev pub IsDevice : Me ℕ View → Bool → List Block → Type 0
 IsDevice me told blocks = me ≡ (device_view told blocks, [])
 
 abbrev pub IsDesk : Me ℕ View → Bool → List Place → Type 0
@@ -32,10 +33,10 @@ abbrev pub IsCarried : Me ℕ View → Given → Done → Type 0
 IsCarried me g x = me ≡ (deed_view (carried g x), [])
 
 -- or two of these
-abbrev pub IsBoth : Me ℕ View → Bool × List (List ℕ) → Bool × List Place → Type 0
+abbrev pub IsBoth : Me ℕ View → Bool × List Block → Bool × List Place → Type 0
 IsBoth me device desk = me ≡ (both_view device desk, [])
 
-abbrev pub IsDeviceWith : Me ℕ View → Bool → List (List ℕ) → Deed → Type 0
+abbrev pub IsDeviceWith : Me ℕ View → Bool → List Block → Deed → Type 0
 IsDeviceWith me told blocks d = me ≡ (device_with told blocks d, [])
 
 abbrev pub IsDeskWith : Me ℕ View → Bool → List Place → Deed → Type 0

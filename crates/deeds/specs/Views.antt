@@ -2,6 +2,7 @@
 use Rattle.std.specs.Prelude.{ℕ, Bool, false, List, [], Option, Some, None, Ok, slice_get}
 use Rattle.std.specs.Option.{unwrap_or}
 use Rattle.pc_types.specs.declared.kind.Kind.TheVariants.{Fill}
+use Rattle.deeds.specs.declared.views.Block.{Block}
 use Rattle.deeds.specs.declared.views.Given.{Given}
 use Rattle.deeds.specs.declared.views.Done.{Done}
 use Rattle.deeds.specs.declared.views.Deed.{Deed}
@@ -25,7 +26,7 @@ carried g x = record { given = g; done = Some x }
 abbrev pub spent : View
 spent = record { device = None; desk = None; deed = None }
 
-abbrev pub device_view : Bool → List (List ℕ) → View
+abbrev pub device_view : Bool → List Block → View
 device_view told blocks = record { device = Some (told, blocks); desk = None; deed = None }
 
 abbrev pub desk_view : Bool → List Place → View
@@ -34,13 +35,13 @@ desk_view told places = record { device = None; desk = Some (told, places); deed
 abbrev pub deed_view : Deed → View
 deed_view d = record { device = None; desk = None; deed = Some d }
 
-abbrev pub both_view : Bool × List (List ℕ) → Bool × List Place → View
+abbrev pub both_view : Bool × List Block → Bool × List Place → View
 both_view device desk = record { device = Some device; desk = Some desk; deed = None }
 
 abbrev pub opening_view : View
 opening_view = both_view (false, []) (false, [])
 
-abbrev pub device_with : Bool → List (List ℕ) → Deed → View
+abbrev pub device_with : Bool → List Block → Deed → View
 device_with told blocks d = record { device = Some (told, blocks); desk = None; deed = Some d }
 
 abbrev pub desk_with : Bool → List Place → Deed → View
@@ -48,14 +49,19 @@ desk_with told places d = record { device = None; desk = Some (told, places); de
 
 -- ---- their parts
 
+abbrev pub no_block : Block
+no_block = record { bytes = []; calls = 0 }
+
 abbrev pub no_given : Given
-no_given = record { task = record { cache = 0; serial = 0; kind = Fill; block = 0; bytes = [] }; before = [] }
+no_given = record { task = record { cache = 0; serial = 0; kind = Fill; block = 0; bytes = [] }; before = no_block }
 
 abbrev pub no_done : Done
-no_done =
-    record { finished = record { cache = 0; serial = 0; kind = Fill; block = 0; bytes = []; outcome = Ok tt }; left = [] }
+no_done = record {
+  finished = record { cache = 0; serial = 0; kind = Fill; block = 0; bytes = []; outcome = Ok tt };
+  left = no_block;
+}
 
-abbrev pub device_in : View → Bool × List (List ℕ)
+abbrev pub device_in : View → Bool × List Block
 device_in v = unwrap_or v.device (false, [])
 
 abbrev pub desk_in : View → Bool × List Place
@@ -70,13 +76,13 @@ given_in v = (deed_in v).given
 abbrev pub done_in : View → Done
 done_in v = unwrap_or (deed_in v).done no_done
 
--- the bytes of a block whose deed is at home
-abbrev pub bytes_at : Option Place → List ℕ
-bytes_at (Some (Home bytes)) = bytes
-bytes_at p = []
+-- what the device has of a block whose deed is at home
+abbrev pub home_block : Option Place → Block
+home_block (Some (Home now)) = now
+home_block p = no_block
 
-abbrev pub home_in : List Place → ℕ → List ℕ
-home_in places block = bytes_at (slice_get places block)
+abbrev pub home_in : List Place → ℕ → Block
+home_in places block = home_block (slice_get places block)
 
 -- ---- cut and joined
 

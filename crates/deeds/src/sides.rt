@@ -1,13 +1,14 @@
 //! The state's side and the device's side, for the two locks, and what goes between them.
 
-ghost use Rattle.std.specs.Prelude.{◌≡◌, ◌<◌, ℕ, Bool, List, map, length, slice_get, slice_set, is_some, IfOk, Some};
+ghost use Rattle.std.specs.Prelude.{◌≡◌, ◌<◌, ℕ, ◌+◌, Bool, List, map, length, slice_get, slice_set, is_some, IfOk, Some};
 ghost use Rattle.std.specs.Arc.{arc_value};
 ghost use Rattle.blockdev.specs.Watching.{Makes};
 ghost use Rattle.deeds.specs.Comes.{Comes};
 ghost use Rattle.deeds.specs.Rules.{Knows, NoneOut};
-ghost use Rattle.deeds.specs.Shown.{AreTold, Settles};
+ghost use Rattle.deeds.specs.Shown.{AreTold, Settles, bytes_of, calls_of, uncalled};
 ghost use Rattle.deeds.specs.Steps.{IsAt, Stays, IsDevice, IsUndone, IsCarried};
 ghost use Rattle.deeds.specs.Views.{device_in, given_in, home_in};
+ghost use Rattle.deeds.specs.declared.views.Block.{Block};
 ghost use Rattle.deeds.specs.declared.views.Place.TheVariants.{Home, Out};
 
 use crate::naming::NamesDeeds;
@@ -30,7 +31,7 @@ pub struct Opened {
 impl Model for Opened {
     ghost use Rattle.std.specs.Prelude.{◌≡◌, map};
     ghost use Rattle.std.specs.Arc.{arc_value};
-    ghost use Rattle.deeds.specs.Shown.{OpenedSeen};
+    ghost use Rattle.deeds.specs.Shown.{OpenedSeen, bytes_of, uncalled};
     ghost use Rattle.deeds.specs.Steps.{IsAt, IsDevice, IsDesk};
     ghost use Rattle.deeds.specs.Views.{device_in};
     ghost use Rattle.deeds.specs.declared.views.Place.TheVariants.{Home};
@@ -41,13 +42,13 @@ impl Model for Opened {
 
     ghost coded = { Prim.hlevel (codes, table_id_coded) };
 
-    ghost view = { λ o. record { table = o.device.table_id; told = (device_in o.device.me.0).0; blocks = (device_in o.device.me.0).1 } };
+    ghost view = { λ o. record { table = o.device.table_id; told = (device_in o.device.me.0).0; blocks = bytes_of (device_in o.device.me.0).1 } };
 
     ghost invariant = { λ o.
         ((arc_value o.table).shared.table_id ≡ o.device.table_id) × ((arc_value o.again).shared.table_id ≡ o.device.table_id)
         × IsAt o.device.table_id o.desk
-        × IsDevice o.device.me (device_in o.device.me.0).0 (device_in o.device.me.0).1
-        × IsDesk o.desk.me (device_in o.device.me.0).0 (map Home (device_in o.device.me.0).1) };
+        × IsDevice o.device.me (device_in o.device.me.0).0 (map uncalled (bytes_of (device_in o.device.me.0).1))
+        × IsDesk o.desk.me (device_in o.device.me.0).0 (map Home (map uncalled (bytes_of (device_in o.device.me.0).1))) };
 }
 
 /// Both sides while the deed of one block is lent. Contracts see what they see before and after.
@@ -60,9 +61,9 @@ pub struct Lent {
 }
 
 impl Model for Lent {
-    ghost use Rattle.std.specs.Prelude.{◌≡◌};
+    ghost use Rattle.std.specs.Prelude.{◌≡◌, map};
     ghost use Rattle.std.specs.Arc.{arc_value};
-    ghost use Rattle.deeds.specs.Shown.{OpenedSeen, OneOut};
+    ghost use Rattle.deeds.specs.Shown.{OpenedSeen, OneOut, bytes_of, uncalled};
     ghost use Rattle.deeds.specs.Steps.{IsAt, IsDevice, IsDesk};
     ghost use Rattle.deeds.specs.Views.{device_in, desk_in};
     ghost use Rattle.std.specs.Coded.{codes};
@@ -72,17 +73,17 @@ impl Model for Lent {
 
     ghost coded = { Prim.hlevel (codes, table_id_coded) };
 
-    ghost view = { λ o. record { table = o.device.table_id; told = (device_in o.device.me.0).0; blocks = (device_in o.device.me.0).1 } };
+    ghost view = { λ o. record { table = o.device.table_id; told = (device_in o.device.me.0).0; blocks = bytes_of (device_in o.device.me.0).1 } };
 
     ghost invariant = { λ o.
         ((arc_value o.table).shared.table_id ≡ o.device.table_id) × ((arc_value o.again).shared.table_id ≡ o.device.table_id)
         × IsAt o.device.table_id o.desk
-        × IsDevice o.device.me (device_in o.device.me.0).0 (device_in o.device.me.0).1
+        × IsDevice o.device.me (device_in o.device.me.0).0 (map uncalled (bytes_of (device_in o.device.me.0).1))
         × IsDesk o.desk.me (device_in o.device.me.0).0 (desk_in o.desk.me.0).1
-        × OneOut (device_in o.device.me.0).1 (desk_in o.desk.me.0).1 };
+        × OneOut (map uncalled (bytes_of (device_in o.device.me.0).1)) (desk_in o.desk.me.0).1 };
 }
 
-/// The state's side: where the deed of each block is. It knows what each block has whose deed is at home.
+/// The state's side: where the deed of each block is. It knows what the device has of each block whose deed is at home.
 #[derive(Drop)]
 pub struct Desk<B: NamesDeeds> {
     table: Arc<Owned, Global>,
@@ -104,7 +105,7 @@ impl<B: NamesDeeds> Model for Desk<B> {
     ghost invariant = { λ d. ((arc_value d.table).shared.table_id ≡ B.deeds) × IsAt B.deeds d.pass × IsDesk d.pass.me B.told (desk_in d.pass.me.0).1 };
 }
 
-/// The device's side: what each block has.
+/// The device's side: what it has of each block.
 #[derive(Drop)]
 pub struct DeviceSide<B: NamesDeeds> {
     table: Arc<Owned, Global>,
@@ -113,12 +114,13 @@ pub struct DeviceSide<B: NamesDeeds> {
 }
 
 impl<B: NamesDeeds> Model for DeviceSide<B> {
-    ghost use Rattle.std.specs.Prelude.{◌≡◌, ℕ, List};
+    ghost use Rattle.std.specs.Prelude.{◌≡◌, List};
     ghost use Rattle.std.specs.Arc.{arc_value};
     ghost use Rattle.deeds.specs.Steps.{IsAt, IsDevice};
     ghost use Rattle.deeds.specs.Views.{device_in};
+    ghost use Rattle.deeds.specs.declared.views.Block.{Block};
 
-    ghost Value = { List (List ℕ) };
+    ghost Value = { List Block };
 
     ghost view = { λ d. (device_in d.pass.me.0).1 };
 
@@ -276,8 +278,8 @@ impl Opened {
     /// Both sides under their name.
     pub fn named<B: NamesDeeds>(self) -> (Desk<B>, DeviceSide<B>)
         requires { (self.table ≡ B.deeds) × (self.told ≡ B.told) }
-        ensures desk { result.0 ≡ map Home self.blocks }
-        ensures device { result.1 ≡ self.blocks }
+        ensures desk { result.0 ≡ map Home (map uncalled self.blocks) }
+        ensures device { result.1 ≡ map uncalled self.blocks }
     {
         let Opened {
             table,
@@ -366,8 +368,8 @@ impl<B: NamesDeeds> Desk<B> {
         take_back(&table.shared, pass, stub.deed);
     }
 
-    /// Compares the sides: each block whose deed is at home has on the device what the desk knows, and each whose deed is out what it had
-    /// when that was given, or what its call may have left.
+    /// Compares the sides: of each block whose deed is at home the device has what the desk knows, and of each whose deed is out what it had
+    /// when that was given, or what the deed's call may have left.
     pub fn close(self, device: DeviceSide<B>)
         ensures knows { Knows B.told device self }
         ensures whole { NoneOut self → self ≡ map Home device }
@@ -419,9 +421,10 @@ impl<B: NamesDeeds> DeviceSide<B> {
     ) -> Report<B>
         requires exists { errand.block < device.old.device.count }
         requires size { length errand.bytes ≡ device.old.device.size }
-        requires contents { AreTold B.told device.old.device self.old }
+        requires contents { AreTold B.told device.old.device (bytes_of self.old) }
         ensures made { Makes device.old errand result device.new }
-        ensures contents { AreTold B.told device.new.device self.new }
+        ensures contents { AreTold B.told device.new.device (bytes_of self.new) }
+        ensures calls { calls_of self.new ≡ calls_of self.old + 1 }
     {
         let Errand { job, deed, .. } = errand;
         let finished = device.perform(job);
@@ -435,7 +438,7 @@ impl<B: NamesDeeds> DeviceSide<B> {
     }
 }
 
-// As `carry`. The device is there for the proof to name what the block was left with.
+// As `carry`. The device is there for the proof to name what the call left of the block.
 fn note<D: BlockDevice>(
     table: &Deeds,
     side: &mut Pass,
@@ -443,7 +446,7 @@ fn note<D: BlockDevice>(
     finished: &Finished,
     device: &Watched<D>,
 ) -> Pass
-    ghost left: { List ℕ }
+    ghost left: { Block }
     requires at { IsAt table.now.table_id side.old × IsAt table.now.table_id deed }
     requires side { IsDevice side.old.me (device_in side.old.me.0).0 (device_in side.old.me.0).1 }
     requires deed { IsUndone deed.me (given_in deed.me.0) }

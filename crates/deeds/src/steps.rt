@@ -1,9 +1,10 @@
 //! The steps, at a table and its passes. Each is one to three loads of a word that never changes.
-ghost use Rattle.std.specs.Prelude.{◌≡◌, ℕ, Bool, false, List, [], map, slice_get, slice_set, IfOk, Some};
+ghost use Rattle.std.specs.Prelude.{◌≡◌, Bool, false, List, [], map, slice_get, slice_set, IfOk, Some};
 ghost use Rattle.deeds.specs.Comes.{Comes};
 ghost use Rattle.deeds.specs.Rules.{Knows, NoneOut};
 ghost use Rattle.deeds.specs.Steps.{IsAt, Stays, IsDevice, IsDesk, IsUndone, IsCarried, IsBoth, IsDeviceWith, IsDeskWith};
 ghost use Rattle.deeds.specs.Views.{device_in, desk_in, given_in, done_in, home_in, undone, carried};
+ghost use Rattle.deeds.specs.declared.views.Block.{Block};
 ghost use Rattle.deeds.specs.declared.views.Place.TheVariants.{Home, Out};
 
 use crate::views::{
@@ -17,10 +18,10 @@ use std::marker::Brand;
 
 pub(crate) type Owned = Table<u8, View, (), InOneHand, Global>;
 
-/// The table, the device's side, and the desk, where all deeds are at home. `found` is whether the device tells its contents, and the
-/// bytes of its blocks.
+/// The table, the device's side, and the desk, where all deeds are at home. `found` is whether the device tells its contents, and its
+/// blocks.
 pub(crate) fn open(alloc: Global) -> Result<(Owned, Pass, Pass), AllocError>
-    ghost found: { Bool × List (List ℕ) }
+    ghost found: { Bool × List Block }
     ensures at { IfOk result (λ r. IsAt r.0.shared.table_id r.1 × IsAt r.0.shared.table_id r.2) }
     ensures device { IfOk result (λ r. IsDevice r.1.me found.0 found.1) }
     ensures desk { IfOk result (λ r. IsDesk r.2.me found.0 (map Home found.1)) }
@@ -67,10 +68,10 @@ fn mark_out<N: NamesGiven>(table: &Deeds, desk: &mut Pass, job: &Job)
     table.load::<Gives<N>>(desk, 0);
 }
 
-/// Carries the deed out: its device call was made, and `left` is what its block was left with. The block had the bytes that it had when
+/// Carries the deed out: its device call was made, and `left` is what it left of the block. The device had of the block what it had when
 /// the deed was given; who shows what may come of the call may count on that.
 pub(crate) fn carry(table: &Deeds, device: &mut Pass, deed: Pass, finished: &Finished) -> Pass
-    ghost left: { List ℕ }
+    ghost left: { Block }
     requires at { IsAt table.now.table_id device.old × IsAt table.now.table_id deed }
     requires device { IsDevice device.old.me (device_in device.old.me.0).0 (device_in device.old.me.0).1 }
     requires deed { IsUndone deed.me (given_in deed.me.0) }
@@ -112,7 +113,7 @@ pub(crate) fn take_back(table: &Deeds, desk: &mut Pass, deed: Pass)
     table.load::<TakesBack>(desk, 0);
 }
 
-/// Takes back a deed whose call was not made. It was out for just what it says, and its block has what it had.
+/// Takes back a deed whose call was not made. It was out for just what it says, and the device has of its block what it had.
 pub(crate) fn take_undone(table: &Deeds, desk: &mut Pass, deed: Pass)
     requires at { IsAt table.now.table_id desk.old × IsAt table.now.table_id deed }
     requires desk { IsDesk desk.old.me (desk_in desk.old.me.0).0 (desk_in desk.old.me.0).1 }
@@ -125,8 +126,8 @@ pub(crate) fn take_undone(table: &Deeds, desk: &mut Pass, deed: Pass)
     table.load::<TakesBack>(desk, 0);
 }
 
-/// Compares the desk with the device's side: each block whose deed is at home has the bytes that the desk knows, and each whose deed is
-/// out what it had when that was given, or what its call may have left.
+/// Compares the desk with the device's side: of each block whose deed is at home the device has what the desk knows, and of each whose deed
+/// is out what it had when that was given, or what the deed's call may have left.
 pub(crate) fn close(table: &Deeds, mut desk: Pass, device: Pass)
     requires at { IsAt table.now.table_id desk × IsAt table.now.table_id device }
     requires desk { IsDesk desk.me (desk_in desk.me.0).0 (desk_in desk.me.0).1 }

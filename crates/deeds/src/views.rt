@@ -4,16 +4,22 @@ use blockdev::{Finished, Job};
 use std::collections::LinkedList;
 use std::marker::{Brand, PhantomData};
 
-/// What a deed was given for: the task, and the bytes that its block had then.
-pub struct Given {
-    pub task: Job,
-    pub before: LinkedList<u8>,
+/// What the device has of a block: its bytes, and how many calls of it were made since the deeds were opened.
+pub struct Block {
+    pub bytes: LinkedList<u8>,
+    pub calls: u64,
 }
 
-/// What came of the device call: the finished task, and the bytes that the block was left with.
+/// What a deed was given for: the task, and what the device had of its block then.
+pub struct Given {
+    pub task: Job,
+    pub before: Block,
+}
+
+/// What came of the device call: the finished task, and what it left of the block.
 pub struct Done {
     pub finished: Finished,
-    pub left: LinkedList<u8>,
+    pub left: Block,
 }
 
 /// A deed that is out: what it was given for, and what came of it once the call was made.
@@ -22,17 +28,17 @@ pub struct Deed {
     pub done: Option<Done>,
 }
 
-/// Where the deed of a block is: at home, and then with the block's bytes, or out.
+/// Where the deed of a block is: at home, and then with what the device has of the block, or out.
 pub enum Place {
-    Home(LinkedList<u8>),
+    Home(Block),
     Out(Given),
 }
 
 /// What a pass knows. Each part is there only where the pass has it. No value of it is made.
 pub struct View {
-    /// The device's side: whether the device tells its contents, and the bytes of each block. Of a device that does not tell, the bytes mean
+    /// The device's side: whether the device tells its contents, and what it has of each block. Of a device that does not tell, the bytes mean
     /// nothing.
-    pub device: Option<(bool, LinkedList<LinkedList<u8>>)>,
+    pub device: Option<(bool, LinkedList<Block>)>,
     /// The state's side: whether the device tells its contents, and where the deed of each block is.
     pub desk: Option<(bool, LinkedList<Place>)>,
     pub deed: Option<Deed>,
@@ -51,11 +57,12 @@ impl TableRule<u8, View, ()> for InOneHand {
 
 /// Names a device as it is found. Each call that opens deeds picks it.
 pub trait NamesDevice {
-    ghost use Rattle.std.specs.Prelude.{ℕ, Bool, List};
+    ghost use Rattle.std.specs.Prelude.{Bool, List};
+    ghost use Rattle.deeds.specs.declared.views.Block.{Block};
 
     ghost told: { Bool };
 
-    ghost blocks: { List (List ℕ) };
+    ghost blocks: { List Block };
 }
 
 impl NamesDevice for Brand {

@@ -15,7 +15,7 @@ use Rattle.cachecore.specs.declared.answers.SyncStepped.{SyncStepped}
 use Rattle.cachecore.specs.declared.answers.SyncStepped.TheVariants as sync
 use Rattle.cachecore.specs.Replies.{IsFillJob, IsFlushJob, IsSyncJob, OnFillJob, OnFlushJob, OnSyncJob}
 use Rattle.cachecore.specs.Replies.{end_of, fill_begun, flush_begun, sync_stepped}
-use Rattle.deeds.specs.Shown.{Settles}
+use Rattle.deeds.specs.Shown.{Settles, uncalled}
 use Rattle.deeds.specs.declared.views.Place.{Place}
 use Rattle.deeds.specs.declared.views.Place.TheVariants.{Home}
 use Rattle.machine.specs.declared.event.End.{End}
@@ -204,7 +204,7 @@ on_ended {old} {new} {before} {after} {slip} {told} {files} {sizes} {name} {bloc
 -- ---- a cache that begins
 
 pub opens_tied : (told : Bool) (files : Catalog) (sizes : Sizes) (name : ℕ) (blocks : List (List ℕ)) (history : List Entry) (state : State)
-    (places : List Place) → history ≡ [] → state ≡ adopted sizes name files → places ≡ map Home blocks
+    (places : List Place) → history ≡ [] → state ≡ adopted sizes name files → places ≡ map Home (map uncalled blocks)
     → length blocks ≡ sizes.blocks → (told ≡ true → MayBegin files sizes name blocks)
     → IsTied told files sizes name blocks history state places
 opens_tied told files sizes name blocks history state places empty first home count tells =

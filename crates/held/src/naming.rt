@@ -4,8 +4,8 @@ use deeds::naming::NamesDeeds;
 use std::marker::Brand;
 
 /// Names a cache: its name, the tables behind its seats and its error board, its sizes, how many seats it has, how much room its trail
-/// has at first, and what its device has then: the files that stand on it, and the blocks, where the device tells them. Its deeds are named
-/// too. A program picks it once.
+/// has at first, and what its device has then: the files that stand on it, the blocks, where the device tells them, and how many reads and
+/// writes were made. Its deeds are named too. A program picks it once.
 pub trait Naming: NamesDeeds {
     ghost use Rattle.std.specs.Prelude.{ℕ, List};
     ghost use Rattle.atomic_table.specs.Seated.{TableId};
@@ -28,6 +28,8 @@ pub trait Naming: NamesDeeds {
     ghost whole: { Room };
 
     ghost blocks: { List (List ℕ) };
+
+    ghost calls: { ℕ };
 }
 
 impl Naming for Brand {
@@ -50,4 +52,6 @@ impl Naming for Brand {
     ghost whole = { no_room };
 
     ghost blocks = { [] };
+
+    ghost calls = { 0 };
 }

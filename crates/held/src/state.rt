@@ -13,9 +13,10 @@ ghost use Rattle.machine.specs.Catalogs.{Catalog as Files};
 ghost use Rattle.machine.specs.PageLists.{no_lists};
 ghost use Rattle.pc_types.specs.Limits.{Sizes};
 ghost use Rattle.machine.specs.State.{file_at};
+ghost use Rattle.deeds.specs.Shown.{calls_of, known, uncalled};
 ghost use Rattle.deeds.specs.declared.views.Place.TheVariants.{Home};
 ghost use Rattle.runs.specs.World.{World};
-ghost use Rattle.tied.specs.Tied.{IsCovered, IsHonest, Tied};
+ghost use Rattle.tied.specs.Tied.{IsCovered, IsHonest, Tied, ended_count};
 ghost use Rattle.trail.specs.Honest.{MayBegin};
 ghost use Rattle.trail.specs.History.{After};
 ghost use Rattle.trail.specs.Room.{keeps_room, reserved};
@@ -244,7 +245,7 @@ impl<B: Naming, T: Trail> Held<B, T> {
     pub fn of(opened: Opened<T>, desk: Desk<B>) -> Held<B, T>
         requires locked { IsLocked B.name B.table B.board B.sizes B.seats B.whole opened }
         requires fresh { (opened.log.history ≡ []) × (opened.core.state ≡ adopted B.sizes B.name B.files) }
-        requires desk { desk ≡ map Home B.blocks }
+        requires desk { desk ≡ map Home (map uncalled B.blocks) }
         requires count { length B.blocks ≡ B.sizes.blocks }
         requires files { IsCatalog B.sizes B.files }
         requires first { B.told ≡ true → MayBegin B.files B.sizes B.name B.blocks }
@@ -346,6 +347,7 @@ impl<B: Naming, T: Trail> Held<B, T> {
         ensures cache { IfOk result (λ r. T.cache r.0 ≡ Some B.name) }
         ensures core { IfOk result (λ r. (r.1.state.name ≡ B.name) × (r.1.state.sizes ≡ B.sizes)) }
         ensures desk { IfOk result (λ r. IsCovered r.1.state r.2) }
+        ensures counted { IfOk result (λ r. calls_of (known r.2) ≡ ended_count self.log.history) }
         ensures tied { B.told ≡ true → IfOk result (λ r. Tied B.files B.sizes B.name B.blocks self.log.history r.1.state r.2) }
         ensures seats { OnOk result (All (λ s. IsPrefix s.list self.log.history × (s.count ≡ count_of s.number self.log.history)) seats.items) }
         ensures own { OnOk result (IsPrefix own.list self.log.history × (own.count ≡ count_of own.number self.log.history)) }

@@ -1,9 +1,9 @@
 #![tactic(auto)]
 //! The program of the page cache. `pcache run` reads a script of cache calls and prints what each answers; `pcache storm` makes
 //! calls from many threads at once, and replays their history; `pcache torture` makes random calls beside plain files, over a device
-//! that fails by chance; `pcache over` serves a file that is there.
+//! that fails by chance; `pcache over` serves a file that is there; `pcache shards` is a storm over a cache of shards.
 //!
-//! The crate `script` does the first, `storm` the second, `torture` the third, and `overfile` the fourth.
+//! The crate `script` does the first, `storm` the second and the last, `torture` the third, and `overfile` the fourth.
 //!
 //! Floor: programs.
 
@@ -21,7 +21,7 @@ use std::string::String;
 use std::sync::Wait;
 use std::thread::Threads;
 use std::time::SystemTime;
-use storm::{BLOCKS, Weather, run_storm};
+use storm::{BLOCKS, Weather, run_shards, run_storm};
 use storm_text::say_usage;
 use textline::words::number;
 use textline::{Printer, Stop};
@@ -37,6 +37,8 @@ enum Request {
     Torture(Vec<String>),
     /// A file that is served, with the words after `over`.
     Over(Vec<String>),
+    /// A storm over shards, with the words after `shards`.
+    Shards(Vec<String>),
     Neither,
 }
 
@@ -60,6 +62,11 @@ fn main(rt: HostRuntime) -> ExitCode {
             run_rounds(rt.alloc(), &words, watched, &mut out, &mut rt.stderr())
         }
         Ok(Request::Over(words)) => serve_file(&rt, &words),
+        Ok(Request::Shards(words)) => {
+            let mut out = Printer::new(rt.alloc(), rt.stdout());
+            let weather = weather(&rt);
+            storm_shards(&rt, rt.alloc(), &words, weather, &mut out, &mut rt.stderr())
+        }
         Ok(Request::Neither) => {
             let _ = say_usage(&mut rt.stderr());
             2
@@ -96,6 +103,7 @@ fn request_of(rt: &HostRuntime) -> Result<Request, Stop>
         "storm" => Ok(Request::Storm(rest)),
         "torture" => Ok(Request::Torture(rest)),
         "over" => Ok(Request::Over(rest)),
+        "shards" => Ok(Request::Shards(rest)),
         _ => Ok(Request::Neither),
     }
 }
@@ -133,6 +141,24 @@ fn run_threads<R: Threads + Wait + Files<File = File> + Sync, W: Write, E: Write
         }
     }
     run_storm(rt, alloc, &words, weather, out, err)
+}
+
+/// Runs the storm over shards that these words ask for.
+fn storm_shards<R: Threads + Wait + Sync, W: Write, E: Write>(
+    rt: &R,
+    alloc: Global,
+    owned: &[String],
+    weather: Weather,
+    out: &mut Printer<W>,
+    err: &mut E,
+) -> u8 {
+    let mut words = Vec::new(alloc);
+    for word in owned {
+        if words.push(word.as_str()).is_err() {
+            return say_stop(err, Stop::Memory);
+        }
+    }
+    run_shards(rt, alloc, &words, weather, out, err)
 }
 
 /// Plays the rounds that these words ask for.

@@ -45,7 +45,7 @@ use Rattle.shared.specs.Workers.{AllEnded, Begins, Ends, IsEndReply, IsFlushBegi
 use Rattle.shared.specs.declared.ends.Done.{Done}
 use Rattle.shared.specs.declared.worker.Worker.{Worker}
 use Rattle.cachecore.specs.Replies.{buffer_of}
-use Rattle.shared.proofs.Making.{denied_by, denied_one, makes_on, makes_then}
+use Rattle.shared.proofs.Making.{denied_by, denied_one, first_refused, makes_on, makes_then}
 
 -- ---- one event
 
@@ -270,7 +270,8 @@ module _ (files : Catalog) (sizes : Sizes) (name : ℕ) (whole : Room) where
   pub denied_begun : (old new : HeldSeen) (before after : SeatSeen) (d : Denied) → IsFirstDenied files sizes name whole old new before after d
       → IsDenied files sizes name whole IsFlushBegin before after d
   denied_begun old new before after d q =
-      denied_by files sizes name whole IsFlushBegin (event.FlushBegin q.file) old new before after d tt q.denied
+      denied_by files sizes name whole IsFlushBegin (event.FlushBegin q.file) old new before after d tt
+      (λ why slip m. first_refused old.core.state new.core.state q.file why q.first.0 m.step) q.denied
 
   pub unbegun : (old new : HeldSeen) (before after : SeatSeen) (d : Denied) → IsFirstDenied files sizes name whole old new before after d
       → MadeOne d.slip before after

@@ -15,11 +15,11 @@ pub mod Answered
 pub mod Letting
 pub mod Sparing
 pub mod Wanting
+pub mod CallCounts
 pub mod Carrying
 pub mod Settling
 pub mod ShardBack
 pub mod ShardHalves
-pub mod ShardPlaces
 pub mod ShardRowing
 pub mod ShardSeated
 pub mod ShardMaking
@@ -28,4 +28,3 @@ pub mod ShardFroms
 pub mod ShardEnding
 pub mod ShardStaffing
 pub mod ShardWorking
-pub mod ShardArms

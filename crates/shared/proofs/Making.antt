@@ -1,8 +1,12 @@
 -- What the events of a call say of its seat, from its begin to its end.
-use Rattle.std.proofs.Common.{◌≡◌, ◌⊎◌, Bool, true, false, ℕ, List, [], ◌∷◌, ◌++◌, refl, ap, sym, subst, ◌∙◌, inl, inr}
-use Rattle.std.specs.Prelude.{IfErr, IfOk, Ok, Option, Result, Some, None}
+use Rattle.std.proofs.Common.{◌≡◌, ◌⊎◌, Bool, true, false, cond, not, length, ℕ, List, [], ◌∷◌, ◌++◌, refl, ap, sym, subst, ◌∙◌, arith, inl, inr}
+use Rattle.std.specs.Prelude.{IfErr, IfOk, Ok, Option, Result, Some, None, find, is_some, nat_le, option_map}
+use Rattle.std.specs.Ordering.{nat_cmp}
+use Rattle.std.proofs.lemmas.Bool.Decides.{nat_tests}
+use Rattle.std.proofs.lemmas.List.{get_or_past}
 use Rattle.std.proofs.lemmas.Result.{IfErr-weaker, IfOk-weaker}
 use mathlib.Core.List.{IsPrefix}
+use Rattle.maps.proofs.MapLaws.{no_entries}
 use Rattle.errseq.proofs.Prefixes.{prefix_self, prefix_trans}
 use Rattle.cachecore.specs.Replies.{fill_ended}
 use Rattle.cachecore.specs.declared.answers.Ended.TheVariants as ended
@@ -11,11 +15,18 @@ use Rattle.machine.specs.declared.event.Event.{Event}
 use Rattle.machine.specs.declared.event.Event.TheVariants as event
 use Rattle.machine.specs.declared.event.Reply.{Reply}
 use Rattle.machine.specs.declared.event.Reply.TheVariants as reply
+use Rattle.machine.specs.Changes.{flush_pick}
+use Rattle.machine.specs.PageTags as tags
+use Rattle.machine.specs.State.{File, Page, State, file_at, no_file}
+use Rattle.machine.specs.Step.{Step}
+use Rattle.machine.specs.Tests.{is_full, refuse, tests}
+use Rattle.machine.proofs.steps.Cases.{answered}
+use Rattle.pc_types.specs.declared.ids.FileId.{FileId}
 use Rattle.pc_types.specs.declared.ids.HandleId.{HandleId}
 use Rattle.pc_types.specs.declared.ids.PageIndex.{PageIndex}
 use Rattle.pc_types.specs.declared.kind.Kind.TheVariants.{Fill}
 use Rattle.pc_types.specs.declared.refusal.Refusal.{Refusal}
-use Rattle.pc_types.specs.declared.refusal.Refusal.TheVariants.{Io, TrailFull}
+use Rattle.pc_types.specs.declared.refusal.Refusal.TheVariants.{Io, NoSuchFile, TooManyInFlight, TrailFull}
 use Rattle.trail.specs.Entries.{entry_of, noted}
 use Rattle.pc_types.specs.Limits.{Sizes}
 use Rattle.machine.specs.Catalogs.{Catalog}
@@ -31,7 +42,7 @@ use Rattle.held.specs.Firsts.{IsFirstDenied}
 use Rattle.held.specs.declared.denied.Denied.{Denied}
 use Rattle.held.proofs.Seats.{goes_by, goes_on, goes_same, goes_seen, only_by, shown_same}
 use Rattle.shared.specs.Called.{IsForLater, Leads, Makes, OwnFirst, Retries, is_for_now}
-use Rattle.shared.specs.Denials.{DeniedBy, IsDenied, IsFullFor, IsFullIfNoSlip, MadeOne, SawFull}
+use Rattle.shared.specs.Denials.{DeniedBy, IsDenied, IsFullFor, IsFullIfNoSlip, MadeOne, MayRefuse, SawFull}
 use Rattle.shared.specs.Own.{IsCallOf, IsEviction, IsHelp, IsRoomEvent, IsStillDenied}
 use Rattle.shared.specs.Rooms.{wants_room}
 
@@ -72,6 +83,44 @@ makes_then a b c slip e r p q = record {
 }
 
 -- ---- refusals
+
+-- it is no begin of a write-back, which may be refused by one thing alone
+abbrev pub IsNoFlush : Event → Type 0
+IsNoFlush (event.FlushBegin f) = ⊥
+IsNoFlush e = Unit {0}
+
+may_refuse : (e : Event) (why : Refusal) → IsNoFlush e → MayRefuse e why
+may_refuse (event.FlushBegin f) why none = absurd none
+may_refuse e why none = tt
+
+-- a file that has a page to write is there
+picked_there : (s : State) (f : ℕ) → is_some (flush_pick (file_at s f)) ≡ true → nat_le (length s.files) f ≡ false
+picked_there s f some = go (nat_le (length s.files) f) refl
+  where
+    go : (past : Bool) → past ≡ nat_le (length s.files) f → nat_le (length s.files) f ≡ false
+    go false is = sym is
+    go true is =
+        let beyond : file_at s f ≡ no_file = get_or_past s.files f no_file (grind (arith, nat_tests, is)) in
+        let nothing : is_some (flush_pick no_file) ≡ false =
+        ap (λ (es : List (ℕ × Page)). is_some (option_map (λ (e : ℕ × Page). e.0) (find (λ (e : ℕ × Page). tags.is_flushable e.1.tags) es))) (no_entries nat_cmp) in
+        absurd (let wrong : true ≡ false = sym some ∙ ap (λ (x : File). is_some (flush_pick x)) beyond ∙ nothing in cc)
+
+full_alone : (past full : Bool) (pick : Option ℕ) (why : Refusal) → past ≡ false → is_some pick ≡ true
+    → cond past (refuse NoSuchFile) (cond (not (is_some pick)) (Some reply.Nothing) (cond full (refuse TooManyInFlight) None))
+    ≡ Some (reply.Refused why) → why ≡ TooManyInFlight
+full_alone true full pick why there some e = absurd cc
+full_alone false full None why there some e = absurd cc
+full_alone false true (Some p) why there some e = cc
+full_alone false false (Some p) why there some e = absurd cc
+
+-- its write-back is refused where too many requests are in flight
+pub first_refused : (s new : State) (f : FileId) (why : Refusal) → is_some (flush_pick (file_at s f.0)) ≡ true
+    → Step s (event.FlushBegin f) (reply.Refused why) new → why ≡ TooManyInFlight
+first_refused s new f why some step =
+    elim (answered (tests s (event.FlushBegin f)) s (event.FlushBegin f) (reply.Refused why) new step) [
+      | inl a ↦ full_alone (nat_le (length s.files) f.0) (is_full s) (flush_pick (file_at s f.0)) why (picked_there s f.0 some) some a.0
+      | inr a ↦ absurd a.1
+    ]
 
 module _ (files : Catalog) (sizes : Sizes) (name : ℕ) (whole : Room) where
   -- a trail that is full for an event
@@ -133,12 +182,13 @@ module _ (files : Catalog) (sizes : Sizes) (name : ℕ) (whole : Room) where
 
   -- the event of a call was refused
   pub denied_by : (own : Event → Type 0) (e : Event) (old new : HeldSeen) (before after : SeatSeen) (d : Denied) → own e
+      → ((why : Refusal) (slip : Slip) → under.DeniedBy files sizes name whole e old new before after why (Some slip) → MayRefuse e why)
       → under.IsDenied files sizes name whole e old new before after d → IsDenied files sizes name whole own before after d
-  denied_by own e old new before after d is q = go d.refusal d.slip q
+  denied_by own e old new before after d is may q = go d.refusal d.slip q
     where
       go : (r : Refusal) (o : Option Slip) → under.DeniedBy files sizes name whole e old new before after r o → DeniedBy files sizes name whole own before after r o
       go r None q = inl (q.0, full_at own e old new before after is q.1)
-      go r (Some slip) q = (e, reply.Refused r, is, refl, makes_by e (reply.Refused r) old new before after slip q)
+      go r (Some slip) q = (e, reply.Refused r, is, (refl, may r slip q), makes_by e (reply.Refused r) old new before after slip q)
 
   under_goes : (e : Event) (old new : HeldSeen) (before after : SeatSeen) (d : Denied)
       → under.IsDenied files sizes name whole e old new before after d → Goes before after
@@ -153,13 +203,13 @@ module _ (files : Catalog) (sizes : Sizes) (name : ℕ) (whole : Room) where
       → under.IsDenied files sizes name whole e old new before after d → Goes before after
   goes_denied = under_goes
 
-  pub denied_event : (e : Event) (old new : HeldSeen) (before after : SeatSeen) (d : Denied)
+  pub denied_event : (e : Event) (old new : HeldSeen) (before after : SeatSeen) (d : Denied) → IsNoFlush e
       → under.IsDenied files sizes name whole e old new before after d → IsDenied files sizes name whole (λ x. x ≡ e) before after d
-  denied_event e old new before after d q = denied_by (λ x. x ≡ e) e old new before after d refl q
+  denied_event e old new before after d none q = denied_by (λ x. x ≡ e) e old new before after d refl (λ why slip q. may_refuse e why none) q
 
   pub denied_begin : (h : HandleId) (p : PageIndex) (old new : HeldSeen) (before after : SeatSeen) (d : Denied)
       → under.IsDenied files sizes name whole (event.FillBegin h p) old new before after d → IsDenied files sizes name whole (IsHelp h) before after d
-  denied_begin h p old new before after d q = denied_by (IsHelp h) (event.FillBegin h p) old new before after d refl q
+  denied_begin h p old new before after d q = denied_by (IsHelp h) (event.FillBegin h p) old new before after d refl (λ why slip q. tt) q
 
   -- a fill whose device call failed
   pub failed_end : (h : HandleId) (end : End) (code : ℕ) (b : List ℕ) (old new : HeldSeen) (before after : SeatSeen) (slip : Slip)
@@ -175,7 +225,8 @@ module _ (files : Catalog) (sizes : Sizes) (name : ℕ) (whole : Room) where
   pub denied_first : (old new : HeldSeen) (before after : SeatSeen) (d : Denied) → IsFirstDenied files sizes name whole old new before after d
       → IsDenied files sizes name whole IsRoomEvent before after d
   denied_first old new before after d q =
-      denied_by IsRoomEvent (event.FlushBegin q.file) old new before after d tt q.denied
+      denied_by IsRoomEvent (event.FlushBegin q.file) old new before after d tt
+      (λ why slip m. first_refused old.core.state new.core.state q.file why q.first.0 m.step) q.denied
 
 -- ---- one part of a call after another
 
@@ -211,8 +262,9 @@ module _ (files : Catalog) (sizes : Sizes) (name : ℕ) (whole : Room) where
 
   -- the call's own event was refused
   pub call_first : (h : HandleId) (own : Event) (old new : HeldSeen) (before after : SeatSeen) (d : Denied)
-      → under.IsDenied files sizes name whole own old new before after d → IsDenied files sizes name whole (IsCallOf h own) before after d
-  call_first h own old new before after d q = denied_by files sizes name whole (IsCallOf h own) own old new before after d (inl refl) q
+      → IsNoFlush own → under.IsDenied files sizes name whole own old new before after d → IsDenied files sizes name whole (IsCallOf h own) before after d
+  call_first h own old new before after d none q =
+      denied_by files sizes name whole (IsCallOf h own) own old new before after d (inl refl) (λ why slip q. may_refuse own why none) q
 
   pub call_help : (h : HandleId) (own : Event) (a b c : SeatSeen) (d : Denied) → Goes a b → IsDenied files sizes name whole (IsHelp h) b c d
       → IsDenied files sizes name whole (IsCallOf h own) a c d
@@ -223,12 +275,12 @@ module _ (files : Catalog) (sizes : Sizes) (name : ℕ) (whole : Room) where
   call_on h own a b c d p q = denied_on files sizes name whole (IsCallOf h own) (IsCallOf h own) a b c d (λ e x. x) p q
 
   -- an event that was refused, and what came of it
-  pub call_settled : (h : HandleId) (own : Event) (old new : HeldSeen) (a b c : SeatSeen) (first d : Denied)
+  pub call_settled : (h : HandleId) (own : Event) (old new : HeldSeen) (a b c : SeatSeen) (first d : Denied) → IsNoFlush own
       → under.IsDenied files sizes name whole own old new a b first → Goes b c → IsStillDenied files sizes name whole first b c d → IsDenied files sizes name whole (IsCallOf h own) a c d
-  call_settled h own old new a b c first d q goes (inl same) =
+  call_settled h own old new a b c first d none q goes (inl same) =
       subst (IsDenied files sizes name whole (IsCallOf h own) a c) (sym same)
-      (denied_then files sizes name whole (IsCallOf h own) a b c first (call_first h own old new a b first q) goes)
-  call_settled h own old new a b c first d q goes (inr room) =
+      (denied_then files sizes name whole (IsCallOf h own) a b c first (call_first h own old new a b first none q) goes)
+  call_settled h own old new a b c first d none q goes (inr room) =
       denied_on files sizes name whole IsRoomEvent (IsCallOf h own) a b c d (λ e x. inr (room_helps h e x)) (under_goes files sizes name whole own old new a b first q) room
 
   -- a fill that was refused, and what came of it
@@ -322,11 +374,11 @@ first_on e a b c (inr p) q goes = record { is = inr (p.0, leads_then e p.0 a b c
 
 module _ (files : Catalog) (sizes : Sizes) (name : ℕ) (whole : Room) where
   -- what is answered was answered by the event, refusals too
-  pub event_denied : {A : Type 0} (result : Result A Denied) (e : Event) (old new : HeldSeen) (before after : SeatSeen)
+  pub event_denied : {A : Type 0} (result : Result A Denied) (e : Event) (old new : HeldSeen) (before after : SeatSeen) → IsNoFlush e
       → IfErr result (under.IsDenied files sizes name whole e old new before after) → IfErr result (IsDenied files sizes name whole (λ x. x ≡ e) before after)
-  event_denied result e old new before after q =
+  event_denied result e old new before after none q =
       IfErr-weaker result (under.IsDenied files sizes name whole e old new before after) (IsDenied files sizes name whole (λ x. x ≡ e) before after)
-      (λ d k. denied_event files sizes name whole e old new before after d k) q
+      (λ d k. denied_event files sizes name whole e old new before after d none k) q
 
   -- an event that could not be made
   pub full_by : (e : Event) (old new : HeldSeen) (before after : SeatSeen) (d : Denied)

@@ -37,7 +37,7 @@ use Rattle.shared.specs.declared.writes.Change.TheVariants.{Append, Truncate, Wr
 use Rattle.shared.specs.Own.{IsEviction, IsHelp, IsRoomEvent, IsTry, IsUndone}
 use Rattle.shared.specs.Synced.{EndsOnce, IsFlushEnd, IsSyncOver, IsSyncTry, IsTurnTry, IsUnended, IsVerdict, OneSync}
 use Rattle.shared.specs.Workers.{IsEnd, IsEndOf, IsFlushBegin, IsWriteBack}
-use Rattle.shared.proofs.Making.{room_helps}
+use Rattle.shared.proofs.Making.{IsNoFlush, room_helps}
 
 -- ---- events as a history keeps them
 
@@ -215,6 +215,11 @@ pub change_plain : (change : Change) (h : HandleId) (bytes : List ℕ) → IsPla
 change_plain (Write at) h bytes = tt
 change_plain Append h bytes = tt
 change_plain (Truncate size) h bytes = tt
+
+pub change_no_flush : (change : Change) (h : HandleId) (bytes : List ℕ) → IsNoFlush (event_of change h bytes)
+change_no_flush (Write at) h bytes = tt
+change_no_flush Append h bytes = tt
+change_no_flush (Truncate size) h bytes = tt
 
 only_help : (h : HandleId) (own : Event) (a b : SeatSeen) → Only (λ x. IsHelp h x.event) a b → Only (IsTry h own) a b
 only_help h own a b p = only_wider (λ x. IsHelp h x.event) (IsTry h own) a b (λ e x. inr x) p

@@ -1,6 +1,7 @@
 -- What a refusal for want of room says of the cache at its entry.
 use Rattle.std.proofs.Common.{◌≡◌, ◌∙◌, ◌+◌, ◌<◌, ◌≤◌, [], ℕ, Bool, true, false, cond, not, length, take, refl, sym, ap, subst, arith, inl, inr}
 use Rattle.std.specs.Prelude.{◌⊎◌, ◌&&◌, ◌==◌, IsTrue, Ok, Err, Result, Option, Some, None, is_some, nat_le, nat_lt}
+use Rattle.std.proofs.lemmas.Bool.Decides.{nat_tests}
 use Rattle.std.proofs.lemmas.List.{length_push, take-append-le, take_all}
 use Rattle.std.specs.FinMap as map
 use Rattle.blockdev.specs.Jobs.{Task}
@@ -370,6 +371,16 @@ admitted_why false own why r is e = inr cc
 pub refused_why : (name seat handle : ℕ) (why : Refusal) → admitted name seat handle ≡ Err why
     → (why ≡ BadHandle) ⊎ (why ≡ Stranger)
 refused_why name seat handle why e = admitted_why (seat == name) (handle == name) why (admitted name seat handle) refl e
+
+admitted_here : (here : Bool) (r rest : Result Unit Refusal) → r ≡ cond here rest (Err Stranger) → r ≡ Ok tt → here ≡ true
+admitted_here true r rest is e = refl
+admitted_here false r rest is e = absurd cc
+
+-- who is admitted has a seat of the cache
+pub admitted_own : (name seat handle : ℕ) → admitted name seat handle ≡ Ok tt → seat ≡ name
+admitted_own name seat handle e =
+    let here : (seat == name) ≡ true = admitted_here (seat == name) (admitted name seat handle) (cond (handle == name) (Ok tt) (Err BadHandle)) refl e in
+    grind (arith, nat_tests, here)
 
 pub admitted_final : (files : Catalog) (sizes : Sizes) (name : ℕ) (after : SeatSeen) (own seat handle : ℕ) (why : Refusal) (d : Denied)
     → admitted own seat handle ≡ Err why → d ≡ record { refusal = why; slip = None } → IsFinal files sizes name after d

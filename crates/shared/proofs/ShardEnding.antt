@@ -12,7 +12,7 @@ use Rattle.held.specs.Views.{count_of}
 use Rattle.machine.specs.State.{State}
 use Rattle.ring.specs.declared.ring.Ring.{Ring}
 use Rattle.shared.proofs.ShardFroms.{from_at}
-use Rattle.shared.specs.Keeps.{IsDisk, IsLeftBy}
+use Rattle.shared.specs.Keeps.{IsCalledFor, IsDisk, IsLeftBy}
 use Rattle.shared.specs.ShardEnds.{ClosesAt, HasAll, HasEndedFrom, IsClosed, IsRoomFor, IsRoomOf}
 use Rattle.shared.specs.ShardNames.{CacheNames}
 use Rattle.shared.specs.ShardSeats.{AreSeated, IsSeated, no_seat, part}
@@ -136,7 +136,7 @@ pub closed_as : (n : CacheNames) (own : Worker) (column seats : List SeatSeen) (
     → (core.name ≡ name) × (core.sizes ≡ n.sizes)
     → (history : List Entry) × records history × (cache ≡ Some name) × After n.files core.sizes core.name history core
     × Drained own history core × All (λ s. IsPrefix s.list history × (s.count ≡ count_of s.number history)) column
-    × (n.told ≡ true → IsLeftBy n.files n.sizes n.name n.blocks history core device)
+    × (n.told ≡ true → IsLeftBy n.files n.sizes n.name n.blocks history core device) × IsCalledFor n.calls history core device
     → IsClosed n own seats records cache core device
 closed_as n own column seats records cache core device name named same disk core_is p = record {
   named = core_is.0 ∙ named;
@@ -150,6 +150,7 @@ closed_as n own column seats records cache core device name named same disk core
   drained = p.4;
   seen = subst (All (λ s. IsPrefix s.list p.0 × (s.count ≡ count_of s.number p.0))) same p.5;
   left = p.6;
+  called = p.7;
 }
 
 -- ---- one shard after another, the last first

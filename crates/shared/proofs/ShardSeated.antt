@@ -1,10 +1,11 @@
 -- What a call in one shard leaves of a caller's seats.
 use Rattle.std.proofs.Common.{rules, true, false, ◌≡◌, ◌≢◌, ◌<◌, ◌∙◌, ℕ, zero, suc, List, [], ◌∷◌, inl, inr, ⊎_elim, ◌⊎◌, length, refl, slice_index_or, slice_set, subst, sym, ap, arith}
 use Rattle.std.proofs.lemmas.List.{get_or-set_other, get_or-set_same, length-set, set-get_or}
+use Rattle.errseq.proofs.Prefixes.{prefix_self}
 use Rattle.held.specs.Called.{Goes}
 use Rattle.held.specs.Shown.{SeatSeen}
 use Rattle.shared.specs.ShardNames.{CacheNames}
-use Rattle.shared.specs.ShardSeats.{AreSeated, OnlyAt, is_of, no_seat, part}
+use Rattle.shared.specs.ShardSeats.{AreSeated, OnlyAt, SeesMore, is_of, no_seat, part}
 
 pub same_or_else : (i j : ℕ) → (i ≡ j) ⊎ (i ≢ j)
 same_or_else zero zero = inl refl
@@ -91,3 +92,31 @@ seated_after names now inside k own new same less is seated goes =
     ap (λ seats. slice_set seats k new) same ∙ ap (λ s. slice_set now k s) (sym left) in
     seated_on names k now (slice_set inside k new) seated only
     (subst (λ a. Goes a (part (slice_set inside k new) k)) (sym was) (subst (Goes own) (sym left) goes))
+
+-- the seat that was lent has seen more, and no other changed
+pub sees_after : (now inside : List SeatSeen) (k : ℕ) (own new : SeatSeen) → inside ≡ now → k < length inside
+    → own ≡ slice_index_or inside k own → SeesMore own new
+    → (length (slice_set inside k new) ≡ length now)
+    × ((j : ℕ) → j < length now → SeesMore (part now j) (part (slice_set inside k new) j))
+sees_after now inside k own new same less is more =
+    (length-set inside k new ∙ ap length same, λ j within. ⊎_elim (here j) (there j) (same_or_else j k))
+  where
+    here : (j : ℕ) → j ≡ k → SeesMore (part now j) (part (slice_set inside k new) j)
+    here j at =
+        subst (λ i. SeesMore (part now i) (part (slice_set inside k new) i)) (sym at)
+        (subst (λ seats. SeesMore (part seats k) (part (slice_set inside k new) k)) same (at_part SeesMore inside k own new less is more))
+
+    there : (j : ℕ) → j ≢ k → SeesMore (part now j) (part (slice_set inside k new) j)
+    there j other =
+        let kept : part (slice_set inside k new) j ≡ part now j =
+        get_or-set_other inside k j new no_seat other ∙ ap (λ seats. part seats j) same in
+        subst (SeesMore (part now j)) (sym kept)
+        (record { same = (refl, refl, refl, refl); grows = prefix_self (part now j).list })
+
+-- and the seats are of the caches as before
+pub seated_seeing : (names : ℕ → CacheNames) (now inside : List SeatSeen) (k : ℕ) (own new : SeatSeen) → inside ≡ now
+    → k < length inside → own ≡ slice_index_or inside k own → SeesMore own new → AreSeated names now
+    → AreSeated names (slice_set inside k new)
+seated_seeing names now inside k own new same less is more seated =
+    seated_after names now inside k own new same less is seated
+    (record { same = (more.same.0, more.same.1, more.same.2); grows = more.grows; count = omega (arith, more.same.3) })

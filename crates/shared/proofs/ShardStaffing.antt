@@ -1,15 +1,14 @@
 -- A caller's workers, made shard by shard.
-use Rattle.std.proofs.Common.{◌≡◌, ◌<◌, ◌≤◌, ◌+◌, ◌++◌, ◌∷◌, [], ◌∙◌, ℕ, List, Some, length, slice_index_or, slice_set, subst, sym, ap, arith}
-use Rattle.std.specs.Prelude.{IfSome, if◌then◌else◌, map, nat_lt}
+use Rattle.std.proofs.Common.{◌≡◌, ◌<◌, ◌≤◌, ◌+◌, ◌++◌, ◌∷◌, [], ◌∙◌, ℕ, zero, suc, List, length, slice_index_or, slice_set, refl, subst, sym, ap, arith}
+use Rattle.std.specs.Prelude.{if◌then◌else◌, map, nat_lt}
 use Rattle.std.proofs.lemmas.Bool.Decides.{nat_tests}
 use Rattle.std.proofs.lemmas.List.{append_assoc, get_or_append_left, length-set}
 use Rattle.held.specs.Shown.{SeatSeen}
-use Rattle.ring.specs.declared.ring.Ring.{Ring}
-use Rattle.shared.proofs.ShardFroms.{from_at, from_set}
+use Rattle.shared.proofs.ShardFroms.{from_set}
 use Rattle.shared.specs.ShardNames.{CacheNames}
 use Rattle.shared.specs.ShardSeats.{no_seat, part}
-use Rattle.shared.specs.ShardWorkers.{AreWorkers, IsWorkerAt}
-use Rattle.shared.specs.Workers.{IsWorkerOf, seat_of}
+use Rattle.shared.specs.ShardWorkers.{AreWorkers, HasMadeOne, HaveMadeFrom, IsMadeBy, IsWorkerAt}
+use Rattle.shared.specs.Workers.{seat_of}
 use Rattle.shared.specs.declared.worker.Worker.{Worker}
 
 -- how many caches a place has says whether there is such a shard
@@ -19,21 +18,7 @@ no_shard k shards caches there none = grind (arith, nat_tests)
 pub some_shard : (k shards caches : ℕ) → caches ≡ (if nat_lt k shards then 1 else 0) → 0 < caches → k < shards
 some_shard k shards caches there some = grind (arith, nat_tests)
 
--- the worker at a shard
-pub worker_of : (k : ℕ) (names : ℕ → CacheNames) (now inside : List Worker) (own : Worker) (ring : Ring) → inside ≡ now → k < length now
-    → AreWorkers names now → own ≡ slice_index_or inside k own → (names k).ring ≡ Some ring
-    → IsWorkerOf ring (names k).name (names k).table (names k).deeds (names k).sizes own
-worker_of k names now inside own ring same less are is here =
-    let first : (0 + k) ≡ k = omega arith in
-    let there : slice_index_or now k own ≡ own = ap (λ ws. slice_index_or ws k own) (sym same) ∙ sym is in
-    subst (λ o. IfSome o (λ r. IsWorkerOf r (names k).name (names k).table (names k).deeds (names k).sizes own)) here
-    (subst (λ w. IsWorkerAt (names k) w) there
-    (subst (λ j. IsWorkerAt (names j) (slice_index_or now k own)) first (from_at (λ j w. IsWorkerAt (names j) w) 0 k now own are less)))
-
-pub worker_at : (n : CacheNames) (ring : Ring) (w : Worker) → n.ring ≡ Some ring → IsWorkerOf ring n.name n.table n.deeds n.sizes w
-    → IsWorkerAt n w
-worker_at n ring w is of = subst (λ o. IfSome o (λ r. IsWorkerOf r n.name n.table n.deeds n.sizes w)) (sym is) of
-
+-- the shard's own worker comes back
 pub workers_after : (k shards : ℕ) (names : ℕ → CacheNames) (now inside : List Worker) (new : Worker) → inside ≡ now → k < shards
     → (length now ≡ shards) × AreWorkers names now → IsWorkerAt (names k) new
     → (length (slice_set inside k new) ≡ shards) × AreWorkers names (slice_set inside k new)
@@ -62,3 +47,53 @@ pub seats_same : (old new : List SeatSeen) (s : SeatSeen) (before after : List W
 seats_same old new s before after w popped added of =
     ap (λ ws. new ++ map seat_of ws) added ∙ ap (λ x. new ++ x ∷ map seat_of before) of
     ∙ sym (append_assoc new (s ∷ []) (map seat_of before)) ∙ ap (λ seats. seats ++ map seat_of before) (sym popped)
+
+-- ---- of each own worker one is made, from the last shard to the first
+
+-- none has made one yet
+pub none_made_yet : (k : ℕ) (own made : List Worker) → length own ≤ k → made ≡ [] → HaveMadeFrom k own own made
+none_made_yet zero [] made few none = subst (HaveMadeFrom zero [] []) (sym none) (tt, tt)
+none_made_yet zero (w ∷ ws) made few none = absurd (omega (arith, few))
+none_made_yet (suc k) [] made few none = none
+none_made_yet (suc k) (w ∷ ws) made few none = (refl, none_made_yet k ws made (omega (arith, few)) none)
+
+past_last : (k : ℕ) (first own made : List Worker) → length own ≤ k → HaveMadeFrom (suc k) first own made → HaveMadeFrom k first own made
+past_last zero [] [] made past so_far = subst (HaveMadeFrom zero [] []) (sym so_far) (tt, tt)
+past_last zero [] (w ∷ ws) made past so_far = absurd so_far
+past_last zero (v ∷ vs) [] made past so_far = absurd so_far
+past_last zero (v ∷ vs) (w ∷ ws) made past so_far = absurd (omega (arith, past))
+past_last (suc k) [] [] made past so_far = so_far
+past_last (suc k) [] (w ∷ ws) made past so_far = absurd so_far
+past_last (suc k) (v ∷ vs) [] made past so_far = absurd so_far
+past_last (suc k) (v ∷ vs) (w ∷ ws) made past so_far = (so_far.0, past_last k vs ws made (omega (arith, past)) so_far.1)
+
+-- there is no such shard
+pub none_made_past : (k : ℕ) (first own made : List Worker) → length own ≤ k → HaveMadeFrom (k + 1) first own made
+    → HaveMadeFrom k first own made
+none_made_past k first own made past so_far =
+    let next : k + 1 ≡ suc k = omega arith in
+    past_last k first own made past (subst (λ n. HaveMadeFrom n first own made) next so_far)
+
+make_one : (k : ℕ) (first own made : List Worker) (old new w : Worker) → k < length own → old ≡ slice_index_or own k old
+    → HasMadeOne old new → IsMadeBy old w → HaveMadeFrom (suc k) first own made → HaveMadeFrom k first (slice_set own k new) (w ∷ made)
+make_one k [] [] made old new w less is has of so_far = absurd (omega (arith, less))
+make_one k [] (o ∷ os) made old new w less is has of so_far = absurd so_far
+make_one k (v ∷ vs) [] made old new w less is has of so_far = absurd so_far
+make_one zero (v ∷ vs) (o ∷ os) made old new w less is has of so_far =
+    let same : old ≡ v = is ∙ so_far.0 in (
+      (subst (λ x. HasMadeOne x new) same has, so_far.1.0),
+      (subst (λ x. IsMadeBy x w) same of, so_far.1.1),
+    )
+make_one (suc k) (v ∷ vs) (o ∷ os) made old new w less is has of so_far =
+    (so_far.0, make_one k vs os made old new w (omega (arith, less)) is has of so_far.1)
+
+-- the shard's own worker, which was lent, has made one
+pub one_more_made : (k : ℕ) (first now inside made after : List Worker) (old new w : Worker) → inside ≡ now → k < length now
+    → old ≡ slice_index_or inside k old → after ≡ w ∷ made → HasMadeOne old new → IsMadeBy old w → HaveMadeFrom (k + 1) first now made
+    → HaveMadeFrom k first (slice_set inside k new) after
+one_more_made k first now inside made after old new w same less is added has of so_far =
+    let next : k + 1 ≡ suc k = omega arith in
+    let within : k < length inside = subst (λ ws. k < length ws) (sym same) less in
+    let here : HaveMadeFrom (suc k) first inside made =
+    subst (λ ws. HaveMadeFrom (suc k) first ws made) (sym same) (subst (λ n. HaveMadeFrom n first now made) next so_far) in
+    subst (HaveMadeFrom k first (slice_set inside k new)) (sym added) (make_one k first inside made old new w within is has of here)

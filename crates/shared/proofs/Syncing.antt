@@ -105,7 +105,7 @@ module _ (files : Catalog) (sizes : Sizes) (name : ℕ) (whole : Room) where
   pub begin_denied : (h : HandleId) (first last : PageIndex) (old new : HeldSeen) (before after : SeatSeen) (d : Denied)
       → under.IsDenied files sizes name whole (event.SyncBegin h first last) old new before after d → IsNotBegun files sizes name whole h first last before after d
   begin_denied h first last old new before after d q = inr (
-    denied_event files sizes name whole (event.SyncBegin h first last) old new before after d q,
+    denied_event files sizes name whole (event.SyncBegin h first last) old new before after d tt q,
     denied_one files sizes name whole (event.SyncBegin h first last) old new before after d q,
     full_by files sizes name whole (event.SyncBegin h first last) old new before after d q,
   )
@@ -284,6 +284,11 @@ module _ (whole : Room) where
       (subst (λ (o : Option ℕ). Syncs k.number first last o before after slip) is s)
       (hears_reported files sizes name slip slip after mid new (Some code) d heard r)
       (reports_from (Some code) slip k.pass mid new d level r))
+
+-- the slip of its end is of the seat's cache
+pub syncs_of : (h : HandleId) (first last : PageIndex) (failed : Option ℕ) (before after : SeatSeen) (slip : Slip) (name : ℕ)
+    → Syncs h first last failed before after slip → before.name ≡ name → slip.name ≡ name
+syncs_of h first last failed before after slip name s named = s.ended.placed.0 ∙ s.began.goes.same.1 ∙ named
 
 -- the seat has seen the slip's entry
 pub syncs_seen : (h : HandleId) (first last : PageIndex) (failed : Option ℕ) (before after : SeatSeen) (slip : Slip)

@@ -5,7 +5,7 @@ use Rattle.pc_types.specs.Limits.{Sizes}
 use Rattle.machine.specs.Catalogs.{Catalog}
 use Rattle.pc_types.specs.declared.kind.Kind.TheVariants.{Fill}
 use Rattle.pc_types.specs.declared.refusal.Refusal.{Refusal}
-use Rattle.pc_types.specs.declared.refusal.Refusal.TheVariants.{Io, Memory, TrailFull}
+use Rattle.pc_types.specs.declared.refusal.Refusal.TheVariants.{Io, Memory, TooManyInFlight, TrailFull}
 use Rattle.machine.specs.State.{State}
 use Rattle.machine.specs.declared.event.Event.{Event}
 use Rattle.machine.specs.declared.event.Event.TheVariants as event
@@ -21,9 +21,14 @@ use Rattle.held.specs.Shown.{SeatSeen}
 use Rattle.held.specs.declared.denied.Denied.{Denied}
 use Rattle.shared.specs.Called.{Makes}
 
+-- a write-back is begun of a page that there is to write: it may be refused where too many requests are in flight, and by nothing else
+abbrev pub MayRefuse : Event → Refusal → Type 0
+MayRefuse (event.FlushBegin f) why = why ≡ TooManyInFlight
+MayRefuse e why = Unit {0}
+
 -- the reply to an event says why: the event was refused, or it ended a fill that failed
 abbrev pub Tells : Event → Reply → Refusal → Type 0
-Tells e (reply.Refused why) refusal = refusal ≡ why
+Tells e (reply.Refused why) refusal = (refusal ≡ why) × MayRefuse e why
 Tells (event.End Fill end) (reply.Failed code) refusal = refusal ≡ Io code
 Tells e r refusal = ⊥
 

@@ -1,13 +1,13 @@
 -- What holds of the device under its lock, and of the device at the end.
-use Rattle.std.specs.Prelude.{◌≡◌, ◌≢◌, ◌<◌, ℕ, Bool, Err, List, Ok, Result, Some, length, map as map_list, slice_get}
+use Rattle.std.specs.Prelude.{◌≡◌, ◌≢◌, ◌<◌, ◌≤◌, ℕ, ◌+◌, Bool, Err, List, Ok, Result, Some, length, map as map_list, min, slice_get}
 use Rattle.std.specs.FinMap as map
-use Rattle.blockdev.specs.Device.{Outcome, Told}
+use Rattle.blockdev.specs.Device.{Outcome, Told, max_calls}
 use Rattle.deeds.specs.Shown.{AreTold}
 use Rattle.machine.specs.State.{Request, State}
 use Rattle.pc_types.specs.Limits.{Sizes}
 use Rattle.machine.specs.Catalogs.{Catalog}
 use Rattle.runs.specs.World.{World}
-use Rattle.tied.specs.Tied.{IsHonest, IsOnItsWay}
+use Rattle.tied.specs.Tied.{IsHonest, IsOnItsWay, ended_count}
 use Rattle.trail.specs.declared.entry.Entry.{Entry}
 
 -- it has blocks of a page, as many as the cache
@@ -39,3 +39,12 @@ pub record IsLeftBy (files : Catalog) (sizes : Sizes) (name : ℕ) (blocks : Lis
   pub each : (k : ℕ) → k < sizes.blocks → ((t : ℕ) (x : Request) → map.get core.requests t ≡ Some x → x.block ≢ k)
       → slice_get left k ≡ slice_get world.device k
   pub busy : (t : ℕ) (x : Request) → map.get core.requests t ≡ Some x → IsOnItsWay world t x (slice_get left x.block)
+
+-- a device that had made so many calls made so many more. One past the last that can be counted is refused
+abbrev pub HasMade : ℕ → ℕ → Told → Type 0
+HasMade first more device = device.calls ≡ min (first + more) max_calls
+
+-- it made one call for each request that the history ends, and at most one for each that is still in flight
+abbrev pub IsCalledFor : ℕ → List Entry → State → Told → Type 0
+IsCalledFor first history core device =
+    (more : ℕ) × (more ≤ map.len core.requests) × HasMade first (ended_count history + more) device

@@ -16,6 +16,7 @@ pub mod ShardNames
 pub mod ShardResults
 pub mod ShardSeats
 pub mod ShardParts
+pub mod ShardPlaced
 pub mod ShardWorkers
 pub mod ShardWorks
 pub mod ShardEnds

@@ -2,7 +2,6 @@
 use Rattle.std.specs.Prelude.{◌≡◌, ◌≢◌, ◌⊎◌, ◌+◌, ◌*◌, ◌-◌, ◌^◌, ◌≤◌, ℕ, Bool, List, Option, Result, Err, None, Some, IfErr, IfOk, IsOkUnless, drop, length, min, take}
 use Rattle.cachecore.specs.Standing.{Tells}
 use Rattle.cursor.specs.declared.seek.Seek.{Seek}
-use Rattle.errboard.specs.Shown.{PassSeen}
 use Rattle.held.specs.Called.{Goes, Once, Only}
 use Rattle.held.specs.Shown.{SeatSeen}
 use Rattle.held.specs.declared.denied.Denied.{Denied}

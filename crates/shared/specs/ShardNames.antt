@@ -17,6 +17,7 @@ pub record CacheNames : Type 0 where
   pub seats : ℕ
   pub whole : Room
   pub blocks : List (List ℕ)
+  pub calls : ℕ
   pub deeds : TableId
   pub told : Bool
   pub ring : Option Ring
@@ -31,6 +32,7 @@ no_names = record {
   seats = 0;
   whole = no_room;
   blocks = [];
+  calls = 0;
   deeds = no_table;
   told = false;
   ring = None;

@@ -1,5 +1,5 @@
 -- What calls of a cache of shards answer, beside what the shard's own call does.
-use Rattle.std.specs.Prelude.{◌≡◌, ℕ, Result, Ok, Err}
+use Rattle.std.specs.Prelude.{ℕ, Result, Ok, Err}
 use Rattle.held.specs.declared.denied.Denied.{Denied}
 use Rattle.held.specs.declared.log.Slip.{Slip}
 use Rattle.pc_types.specs.declared.ids.FileId.{FileId}

@@ -5,7 +5,7 @@ use Rattle.held.specs.Names.{no_table}
 use Rattle.held.specs.declared.log.Slip.{Slip}
 use Rattle.pc_types.specs.declared.refusal.Refusal.{Refusal}
 use Rattle.pc_types.specs.declared.refusal.Refusal.TheVariants.{Stranger}
-use Rattle.held.specs.Shown.{SeatSeen}
+use Rattle.held.specs.Shown.{IsFresh, SeatSeen}
 use Rattle.shared.specs.ShardNames.{CacheNames, names_at}
 
 abbrev pub no_seat : SeatSeen
@@ -28,14 +28,14 @@ abbrev pub AreSeated : (ℕ → CacheNames) → List SeatSeen → Type 0
 AreSeated names seats =
     (k : ℕ) → k < length seats → (part seats k).name ≡ (names k).name → (part seats k).table ≡ (names k).table
 
--- a seat of the cache of these names, as it was made: it has entered nothing, and seen nothing
-abbrev pub IsOfCache : CacheNames → SeatSeen → Type 0
-IsOfCache n s = (s.name ≡ n.name) × (s.table ≡ n.table) × (s.list ≡ []) × (s.count ≡ 0)
-
--- a caller's seats are of these caches, one of each
-pub record AreOf (names : List CacheNames) (seats : List SeatSeen) : Type 0 where
+-- the caller of this number has a seat of the same number at each of these caches, which has entered and seen nothing
+pub record AreOf (number : ℕ) (names : List CacheNames) (seats : List SeatSeen) : Type 0 where
   pub count : length seats ≡ length names
-  pub each : (k : ℕ) → k < length names → IsOfCache (names_at names k) (part seats k)
+  pub each : (k : ℕ) → k < length names → let n = names_at names k in IsFresh n.table n.name (part seats k) number
+
+-- so has each caller, in order of their numbers
+abbrev pub AreCallers : List CacheNames → List (List SeatSeen) → Type 0
+AreCallers names rows = (i : ℕ) (d : List SeatSeen) → i < length rows → AreOf i names (slice_index_or rows i d)
 
 -- a seat at each of so many shards, of the shard's cache
 abbrev pub IsSeated : ℕ → (ℕ → CacheNames) → List SeatSeen → Type 0
@@ -47,3 +47,8 @@ pub record Sees (slip : Slip) (before after : SeatSeen) (result : Result Unit Re
   pub grows : IsPrefix before.list after.list
   pub ok : OnOk result (slip.place < length after.list)
   pub err : IfErr result (λ e. (e ≡ Stranger) × (length after.list ≤ slip.place))
+
+-- it is the same seat: it entered nothing, and has seen more or as much
+pub record SeesMore (before after : SeatSeen) : Type 0 where
+  pub same : (after.table ≡ before.table) × (after.name ≡ before.name) × (after.number ≡ before.number) × (after.count ≡ before.count)
+  pub grows : IsPrefix before.list after.list

@@ -78,6 +78,7 @@ impl<B: Naming, D: BlockDevice, T: Trail> SharedCache<B, D, T> {
         requires device { IsDisk B.sizes (D.told parts.device) }
         requires deeds { (parts.deeds.table ≡ B.deeds) × (parts.deeds.told ≡ B.told) × (parts.deeds.blocks ≡ B.blocks) }
         requires blocks { AreBlocksOf B.told B.blocks (D.told parts.device) }
+        requires calls { (D.told parts.device).calls ≡ B.calls }
         ensures named { result.0.name ≡ parts.name }
         ensures ring { result.0.ring ≡ parts.ring }
         ensures own { IsWorkerOf result.0.ring B.name B.table B.deeds B.sizes result.1 }
@@ -93,8 +94,8 @@ impl<B: Naming, D: BlockDevice, T: Trail> SharedCache<B, D, T> {
             device,
             deeds,
         } = parts;
-        // Lend that a page has bytes, and that the blocks that are told are of the device's size.
-        let _ = (geometry.page(), device.blocks());
+        // Lend that a page has bytes, that the blocks that are told are of the device's size, and that its calls are counted.
+        let _ = (geometry.page(), device.blocks(), device.calls());
         let (desk, side) = deeds.named();
         let state = Held::of(held, desk);
         let disk = Disk::of(device, side);

@@ -12,7 +12,7 @@ ghost use Rattle.held.specs.declared.log.Slip.{Slip};
 ghost use Rattle.trail.specs.History.{After};
 ghost use Rattle.trail.specs.declared.entry.Entry.{Entry};
 ghost use Rattle.held.specs.Called.{Goes, Only};
-ghost use Rattle.shared.specs.Keeps.{IsDisk, IsLeftBy};
+ghost use Rattle.shared.specs.Keeps.{IsCalledFor, IsDisk, IsLeftBy};
 ghost use Rattle.shared.specs.Workers.{AllEnded, AllOver, Drained, Ends, IsEnd, IsEndOf, IsOver, IsWorkerOf, company_of, pushed_by, seat_of};
 
 use crate::brief::BriefLock;
@@ -51,7 +51,7 @@ impl<B: Naming, D: BlockDevice, T: Trail> SharedCache<B, D, T> {
         ensures ended { IfErr result (λ e. AllEnded own e.2 × (pushed_by e.2 ≡ pushed_by own) × (company_of e.2 ≡ company_of own)) }
         ensures device { IfOk result (λ r. IsDisk B.sizes (D.told r.2)) }
         ensures core { IfOk result (λ r. (r.1.state.name ≡ self.name) × (r.1.state.sizes ≡ B.sizes)) }
-        ensures closed { IfOk result (λ r. (history : List Entry) × T.records r.0 history × (T.cache r.0 ≡ Some self.name) × After B.files r.1.state.sizes r.1.state.name history r.1.state × Drained own history r.1.state × All (λ s. IsPrefix s.list history × (s.count ≡ count_of s.number history)) seats.items × (B.told ≡ true → IsLeftBy B.files B.sizes B.name B.blocks history r.1.state (D.told r.2))) }
+        ensures closed { IfOk result (λ r. (history : List Entry) × T.records r.0 history × (T.cache r.0 ≡ Some self.name) × After B.files r.1.state.sizes r.1.state.name history r.1.state × Drained own history r.1.state × All (λ s. IsPrefix s.list history × (s.count ≡ count_of s.number history)) seats.items × (B.told ≡ true → IsLeftBy B.files B.sizes B.name B.blocks history r.1.state (D.told r.2)) × IsCalledFor B.calls history r.1.state (D.told r.2)) }
     {
         let SharedCache {
             name,
@@ -74,7 +74,7 @@ impl<B: Naming, D: BlockDevice, T: Trail> SharedCache<B, D, T> {
         match held.close(seats, seat) {
             Ok((trail, core, desk)) => {
                 let (device, side) = device.into_parts();
-                // Tells that the device has what the history leaves of each block.
+                // Tells that the device has what the history leaves of each block, and made no call but for its requests.
                 desk.close(side);
                 Ok((trail, core, device))
             }

@@ -3,8 +3,8 @@
 ghost use Rattle.std.specs.Prelude.{◌≡◌, ◌<◌, IfOk, IsOk, Ok, OnOk, false, length, true};
 ghost use Rattle.blockdev.specs.Jobs.{IsJobFor};
 ghost use Rattle.blockdev.specs.Watching.{Clears, Makes, first_watch};
-ghost use Rattle.deeds.specs.Shown.{AreTold};
-ghost use Rattle.shared.specs.Keeps.{IsDisk, answer_of};
+ghost use Rattle.deeds.specs.Shown.{AreTold, bytes_of, calls_of};
+ghost use Rattle.shared.specs.Keeps.{HasMade, IsDisk, answer_of};
 
 use blockdev::{BlockDevice, Watched};
 use deeds::sides::{DeviceSide, Errand, Report};
@@ -23,21 +23,22 @@ pub struct Disk<B: Naming, D: BlockDevice> {
 
 impl<B: Naming, D: BlockDevice> Model for Disk<B, D> {
     ghost use Rattle.blockdev.specs.Watching.{Watch};
-    ghost use Rattle.deeds.specs.Shown.{AreTold};
-    ghost use Rattle.shared.specs.Keeps.{IsDisk};
+    ghost use Rattle.deeds.specs.Shown.{AreTold, bytes_of, calls_of};
+    ghost use Rattle.shared.specs.Keeps.{HasMade, IsDisk};
 
     ghost Value = { Watch };
 
     ghost view = { λ d. d.device };
 
-    ghost invariant = { λ d. IsDisk B.sizes d.device.device × AreTold B.told d.device.device d.side };
+    ghost invariant = { λ d. IsDisk B.sizes d.device.device × AreTold B.told d.device.device (bytes_of d.side) × HasMade B.calls (calls_of d.side) d.device.device };
 }
 
 impl<B: Naming, D: BlockDevice> Disk<B, D> {
     /// A device that may have been written to before.
     pub(crate) fn of(device: D, side: DeviceSide<B>) -> Disk<B, D>
         requires fits { IsDisk B.sizes (D.told device) }
-        requires told { AreTold B.told (D.told device) side }
+        requires told { AreTold B.told (D.told device) (bytes_of side) }
+        requires made { HasMade B.calls (calls_of side) (D.told device) }
         ensures { result ≡ first_watch (D.told device) }
     {
         Disk {
@@ -50,7 +51,8 @@ impl<B: Naming, D: BlockDevice> Disk<B, D> {
     pub(crate) fn into_parts(self) -> (D, DeviceSide<B>)
         ensures told { D.told result.0 ≡ self.device }
         ensures fits { IsDisk B.sizes (D.told result.0) }
-        ensures contents { AreTold B.told (D.told result.0) result.1 }
+        ensures contents { AreTold B.told (D.told result.0) (bytes_of result.1) }
+        ensures made { HasMade B.calls (calls_of result.1) (D.told result.0) }
     {
         (self.device.into_device(), self.side)
     }
@@ -69,6 +71,7 @@ impl<B: Naming, D: BlockDevice> Disk<B, D> {
 
     /// Makes what was written durable, by one flush where anything was, after the entry of a slip that the seat has seen.
     pub(crate) fn flush_after(&mut self, seat: &Seat, slip: Slip) -> Result<Durable<B, D>, ErrCode>
+        requires own { slip.name ≡ B.name }
         requires seen { (slip.name ≡ seat.now.name) × (slip.place < length seat.now.list) }
         ensures slip { IfOk result (λ d. d ≡ slip) }
         ensures written { self.old.unflushed ≡ true → Clears self.old (answer_of result) self.new }
@@ -96,8 +99,8 @@ impl<B: Naming, D: BlockDevice> Disk<B, D> {
     }
 }
 
-/// The slip of an entry, since which the device of the cache that B names was flushed, and well. Only `Disk::flush_after` makes one
-/// (decision 152).
+/// The slip of an entry of the cache that B names, since which this cache's device was flushed, and well. Only `Disk::flush_after` makes
+/// one (decision 152).
 #[derive(Drop)]
 pub struct Durable<B: Naming, D: BlockDevice> {
     slip: Slip,
@@ -105,11 +108,14 @@ pub struct Durable<B: Naming, D: BlockDevice> {
 }
 
 impl<B: Naming, D: BlockDevice> Model for Durable<B, D> {
+    ghost use Rattle.std.specs.Prelude.{◌≡◌};
     ghost use Rattle.held.specs.declared.log.Slip.{Slip};
 
     ghost Value = { Slip };
 
     ghost view = { λ d. d.slip };
+
+    ghost invariant = { λ d. d.slip.name ≡ B.name };
 }
 
 impl<B: Naming, D: BlockDevice> Durable<B, D> {

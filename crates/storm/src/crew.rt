@@ -18,7 +18,7 @@ pub const WORKERS: u64 = 4;
 
 /// Lets each worker go on.
 #[derive(Drop)]
-struct Open;
+pub(crate) struct Open;
 
 impl Gate for Open {
     ghost use Rattle.std.specs.Prelude.{⊤};

@@ -6,7 +6,8 @@ use std::alloc::Global;
 use std::fmt::Display;
 use std::io::Write;
 use std::{fmt, io};
-use trail::FullTrail;
+use storm_text::Fault;
+use trail::{FullTrail, first_odd};
 
 /// A history, and the place of its first entry whose answer is not that of plain files.
 #[derive(Drop)]
@@ -16,17 +17,32 @@ pub struct Odd {
 }
 
 impl Odd {
+    /// The first entry of the history that is not plain files', if there is one.
+    pub fn first_in(alloc: Global, trail: FullTrail) -> Result<Option<Odd>, Fault> {
+        match first_odd(alloc, &trail) {
+            Ok(odd) => Ok(odd.map(|place| Odd { trail, place })),
+            Err(_) => Err(Fault::Memory),
+        }
+    }
+
     /// Says which entry is odd: its place, who made it, what was asked, what was answered, and what plain files answer, where there is
     /// memory for these.
     pub fn say<E: Write>(&self, alloc: Global, err: &mut E) -> io::Result<()> {
+        write!(err, "pcache: ")?;
+        self.say_entry(alloc, err)
+    }
+
+    /// Says which entry of the history of this shard is odd.
+    pub fn say_of<E: Write>(&self, alloc: Global, shard: usize, err: &mut E) -> io::Result<()> {
+        write!(err, "pcache: shard {shard}: ")?;
+        self.say_entry(alloc, err)
+    }
+
+    fn say_entry<E: Write>(&self, alloc: Global, err: &mut E) -> io::Result<()> {
         let Some((entry, bytes)) = self.trail.entry(self.place) else {
-            return Ok(());
+            return writeln!(err, "no entry {}", self.place);
         };
-        write!(
-            err,
-            "pcache: entry {}, by seat {}: ",
-            self.place, entry.seat
-        )?;
+        write!(err, "entry {}, by seat {}: ", self.place, entry.seat)?;
         write!(err, "{} answered ", Asked(&entry.event, bytes))?;
         write!(err, "{}", Answered(&entry.reply, bytes))?;
         let plain = match PlainFiles::before(alloc, &self.trail, self.place) {

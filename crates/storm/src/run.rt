@@ -33,26 +33,26 @@ use std::sync::Wait;
 use std::thread::{Threads, join, map_vec};
 use storm_text::{Fault, Findings, Keeping, Options, Refused, say_usage, tell};
 use textline::Printer;
-use trail::{Entry, FullTrail, first_odd};
+use trail::{Entry, FullTrail};
 
 /// Bytes of a page.
-const PAGE: u64 = 64;
+pub(crate) const PAGE: u64 = 64;
 
 /// How many blocks the device of the program's storms has.
 pub const BLOCKS: u64 = 256;
 
 /// Fewer frames than the files have pages, and a limit that the writes come to.
-const FRAMES: u64 = 64;
+pub(crate) const FRAMES: u64 = 64;
 
-const DIRTY_LIMIT: u64 = 24;
+pub(crate) const DIRTY_LIMIT: u64 = 24;
 
 /// The most events of the trail, and bytes of all of them. The greatest storm has some 86,000 events, and 1.9 million bytes.
-const EVENTS: u64 = 262_144;
+pub(crate) const EVENTS: u64 = 262_144;
 
-const BYTES: u64 = 8_388_608;
+pub(crate) const BYTES: u64 = 8_388_608;
 
-/// The cache's name.
-const NAME: u64 = 1;
+/// The cache's name, or that of the first shard.
+pub(crate) const NAME: u64 = 1;
 
 /// What a storm is made with beside its arguments.
 #[derive(Clone, Copy)]
@@ -128,9 +128,13 @@ pub fn run_storm<R: Threads + Wait + Files<File = File> + Sync, W: Write, E: Wri
 
 /// What is found of a storm. Which entry is odd, if one is, is said on `err`.
 fn findings_of<E: Write>(alloc: Global, after: Aftermath, err: &mut E) -> Result<Findings, Fault> {
-    let refused = after.refused;
-    let device = after.device;
-    match odd_in(alloc, after) {
+    let Aftermath {
+        trail,
+        refused,
+        device,
+        ..
+    } = after;
+    match Odd::first_in(alloc, trail) {
         Ok(odd) => Ok(Findings {
             replays: say_odd(alloc, odd, err),
             refused,
@@ -205,7 +209,7 @@ pub fn storm_over<R: Threads + Wait + Sync, D: BlockDevice + Send>(
 }
 
 /// Why there is no storm where a device or a cache was refused so.
-fn fault_of(refusal: Refusal) -> Fault {
+pub(crate) fn fault_of(refusal: Refusal) -> Fault {
     match refusal {
         Refusal::Memory => Fault::Memory,
         _ => Fault::Device,
@@ -296,7 +300,7 @@ fn aftermath_of(geometry: Geometry, past: Past, device: Keeping) -> Aftermath {
 }
 
 /// What a history says of its device. An odd end tells which block was read otherwise than it was written.
-fn keeping_of(trail: &FullTrail, verdict: Verdict) -> Keeping {
+pub(crate) fn keeping_of(trail: &FullTrail, verdict: Verdict) -> Keeping {
     match verdict {
         Verdict::AllAlike => Keeping::Kept,
         Verdict::Unlike(block) => Keeping::Lost(block),
@@ -312,15 +316,6 @@ fn keeping_of(trail: &FullTrail, verdict: Verdict) -> Keeping {
             ) => Keeping::Lost(u64::from(end.block.0)),
             _ => Keeping::Odd(place),
         },
-    }
-}
-
-/// The first entry of the history that is not plain files', if there is one.
-fn odd_in(alloc: Global, after: Aftermath) -> Result<Option<Odd>, Fault> {
-    let Aftermath { trail, .. } = after;
-    match first_odd(alloc, &trail) {
-        Ok(odd) => Ok(odd.map(|place| Odd { trail, place })),
-        Err(_) => Err(Fault::Memory),
     }
 }
 
@@ -346,6 +341,7 @@ fn history<B: Naming + Send + Sync, D: BlockDevice + Send, R: Threads + Wait + S
     requires device { IsDisk B.sizes (D.told parts.device) }
     requires deeds { (parts.deeds.table ≡ B.deeds) × (parts.deeds.told ≡ B.told) × (parts.deeds.blocks ≡ B.blocks) }
     requires blocks { AreBlocksOf B.told B.blocks (D.told parts.device) }
+    requires calls { (D.told parts.device).calls ≡ B.calls }
     requires seats { AreFresh B.table B.name seats.items }
 {
     let callers = (seats.len() as u64).saturating_sub(WORKERS);
@@ -378,7 +374,7 @@ fn history<B: Naming + Send + Sync, D: BlockDevice + Send, R: Threads + Wait + S
 }
 
 /// Counts the refusals of workers, whose seats come after those of so many callers.
-fn count_workers(trail: &FullTrail, callers: u64, refused: &mut Refused) {
+pub(crate) fn count_workers(trail: &FullTrail, callers: u64, refused: &mut Refused) {
     for place in 0..trail.len() {
         if let Some(
             (

@@ -72,6 +72,15 @@ impl Steps {
         }
     }
 
+    /// One of so many shards.
+    pub fn shard(&mut self, shards: u64) -> u64
+        requires { 0 < shards }
+        ensures shard { result < shards }
+        ensures first { self.new.first ≡ self.old.first }
+    {
+        self.chance.next_u64() % shards
+    }
+
     /// Makes up the bytes of a write.
     pub fn fill(&mut self, bytes: &mut [u8]) {
         self.chance.fill_bytes(bytes);

@@ -5,17 +5,18 @@ use Rattle.std.specs.List.{list_all}
 use Rattle.std.specs.Io.KnownBytes.{Appends, Keeps}
 use denote.Ref.{Bor}
 use Rattle.textline.specs.Prints.{AppendsPart, ended}
-use Rattle.storm_text.specs.Asked.{AsksFor}
+use Rattle.storm_text.specs.Asked.{AsksFor, AsksForShards}
 use Rattle.storm_text.specs.declared.findings.Findings.{Findings}
 use Rattle.storm_text.specs.declared.findings.Keeping.{Keeping}
 use Rattle.storm_text.specs.declared.findings.Keeping.TheVariants.{Kept, Lost, Odd, Unplayed}
 use Rattle.storm_text.specs.declared.options.Options.{Options}
+use Rattle.storm_text.specs.declared.options.ShardOptions.{ShardOptions}
 use Rattle.storm_text.specs.declared.told.Fault.{Fault}
 use Rattle.storm_text.specs.declared.told.Fault.TheVariants.{Device, Memory}
 
 -- how the program is called
 abbrev pub usage_line : List ℕ
-usage_line = ended (codes "pcache: usage: pcache run | pcache storm THREADS STEPS [PATH] | pcache torture SEED ROUNDS | pcache over PATH SIZE")
+usage_line = ended (codes "pcache: usage: pcache run | pcache storm THREADS STEPS [PATH] | pcache torture SEED ROUNDS | pcache over PATH SIZE | pcache shards SHARDS THREADS STEPS")
 
 abbrev pub calls_text : ℕ → List ℕ
 calls_text calls = codes "calls " ++ decimal calls
@@ -89,3 +90,9 @@ abbrev pub StormTells : List (Bor (List ℕ)) → ℕ → Option (List ℕ) → 
 StormTells words status before after =
     ((o : Options) × (storm : Result Findings Fault) × AsksFor words o × Tells (o.threads * o.steps) storm status before after)
     ⊎ (((o : Options) → ¬ (AsksFor words o)) × (status ≡ 2) × Keeps before after)
+
+-- the same of a storm over a cache of shards
+abbrev pub ShardsTell : List (Bor (List ℕ)) → ℕ → Option (List ℕ) → Option (List ℕ) → Type 0
+ShardsTell words status before after =
+    ((o : ShardOptions) × (storm : Result Findings Fault) × AsksForShards words o × Tells (o.threads * o.steps) storm status before after)
+    ⊎ (((o : ShardOptions) → ¬ (AsksForShards words o)) × (status ≡ 2) × Keeps before after)

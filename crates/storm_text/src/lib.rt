@@ -8,5 +8,5 @@ pub mod options;
 pub mod told;
 
 pub use findings::{Findings, Keeping, Refused};
-pub use options::Options;
+pub use options::{Options, ShardOptions};
 pub use told::{Fault, say_usage, tell};

@@ -2,9 +2,12 @@
 
 ghost use Rattle.std.specs.Prelude.{◌<◌, ◌≤◌, ℕ, IfNone, IfSome};
 ghost use Rattle.textline.specs.Words.{IsNumber};
-ghost use Rattle.storm_text.specs.Asked.{AsksFor, IsNumberUpTo};
+ghost use Rattle.storm_text.specs.Asked.{AsksFor, AsksForShards, IsNumberUpTo};
 
 use textline::words::number;
+
+/// The most shards.
+const MAX_SHARDS: u64 = 16;
 
 /// The most callers, and the most calls of each.
 const MAX_THREADS: u64 = 16;
@@ -35,6 +38,34 @@ impl<'a> Options<'a> {
             threads: number_up_to(words[0], MAX_THREADS)?,
             steps: number_up_to(words[1], MAX_STEPS)?,
             path: words.get(2).copied(),
+        })
+    }
+}
+
+/// The arguments of a storm over a cache of shards.
+#[derive(Clone, Copy)]
+pub struct ShardOptions {
+    /// How many shards there are.
+    pub shards: u64,
+    /// How many callers there are.
+    pub threads: u64,
+    /// How many calls each of them makes.
+    pub steps: u64,
+}
+
+impl ShardOptions {
+    /// The options that the words after `shards` ask for, where they are `SHARDS THREADS STEPS`.
+    pub fn parse(words: &[&str]) -> Option<ShardOptions>
+        ensures asked { IfSome result (AsksForShards words.now) }
+        ensures none { IfNone result ((o : ShardOptions) → ¬ (AsksForShards words.now o)) }
+    {
+        if words.len() != 3 {
+            return None;
+        }
+        Some(ShardOptions {
+            shards: number_up_to(words[0], MAX_SHARDS)?,
+            threads: number_up_to(words[1], MAX_THREADS)?,
+            steps: number_up_to(words[2], MAX_STEPS)?,
         })
     }
 }

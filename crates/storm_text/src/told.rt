@@ -34,7 +34,7 @@ pub fn say_usage<E: Write>(err: &mut E) -> std::io::Result<()>
 {
     writeln!(
         err,
-        "pcache: usage: pcache run | pcache storm THREADS STEPS [PATH] | pcache torture SEED ROUNDS | pcache over PATH SIZE"
+        "pcache: usage: pcache run | pcache storm THREADS STEPS [PATH] | pcache torture SEED ROUNDS | pcache over PATH SIZE | pcache shards SHARDS THREADS STEPS"
     )
 }
 

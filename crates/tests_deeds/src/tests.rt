@@ -1,9 +1,9 @@
 //! Worked requests over a device of two blocks of 16 bytes, each by its block's deed.
 
 ghost use Rattle.pc_types.specs.declared.kind.Kind.TheVariants.{Flush};
-ghost use Rattle.std.specs.Prelude.{OnOk, ◌≡◌, ◌∷◌, [], ◌<◌, true, length, replicate, slice_get, slice_set, map, Some};
+ghost use Rattle.std.specs.Prelude.{OnOk, ◌≡◌, ◌∷◌, [], ◌+◌, ◌<◌, true, length, replicate, slice_get, slice_set, map, Some};
 ghost use Rattle.blockdev.specs.Blocks.{zero_blocks};
-ghost use Rattle.deeds.specs.Shown.{AreTold, Settles};
+ghost use Rattle.deeds.specs.Shown.{AreTold, Settles, calls_of, uncalled};
 ghost use Rattle.deeds.specs.Views.{home_in};
 ghost use Rattle.deeds.specs.declared.views.Place.TheVariants.{Home, Out};
 ghost use Rattle.tests_deeds.specs.Rows.{Fits};
@@ -39,6 +39,7 @@ fn made<B: NamesDeeds>(
     requires errand { (errand.block < 2) × (length errand.bytes ≡ 16) }
     ensures fits { Fits B.told device.new side.new }
     ensures block { result.block ≡ errand.block }
+    ensures calls { calls_of side.new ≡ calls_of side.old + 1 }
 {
     side.carry_out(device, errand)
 }
@@ -52,7 +53,7 @@ fn crossed<B: NamesDeeds>(
     device: &mut Watched<ScriptDevice>,
 )
     requires fits { Fits B.told device.old side.old }
-    requires home { desk.old ≡ Home (replicate 16 0) ∷ Home (replicate 16 0) ∷ [] }
+    requires home { desk.old ≡ Home (uncalled (replicate 16 0)) ∷ Home (uncalled (replicate 16 0)) ∷ [] }
     ensures { Fits B.told device.new side.new }
 {
     let flush = desk.give(job(rt, alloc, Kind::Flush, 0, 0xaa));
@@ -86,7 +87,7 @@ fn flushes<B: NamesDeeds + Send>(
     requires job { (job.kind ≡ Flush) × (job.block < 2) × (length job.bytes ≡ 16) }
     requires home { slice_get desk.old job.block ≡ Some (Home (home_in desk.old job.block)) }
     ensures fits { Fits B.told device.new side.new }
-    ensures well { OnOk result.outcome (slice_get desk.new job.block ≡ Some (Home job.bytes)) }
+    ensures well { OnOk result.outcome (slice_get desk.new job.block ≡ Some (Home record { bytes = job.bytes; calls = (home_in desk.old job.block).calls + 1 })) }
 {
     may_be_sent(desk);
     may_be_sent(side);
@@ -110,7 +111,7 @@ fn fails<B: NamesDeeds + Send>(
 )
     requires told { B.told ≡ true }
     requires fits { Fits B.told device.old side.old }
-    requires home { desk.old ≡ Home (replicate 16 0) ∷ Home (replicate 16 0) ∷ [] }
+    requires home { desk.old ≡ Home (uncalled (replicate 16 0)) ∷ Home (uncalled (replicate 16 0)) ∷ [] }
     ensures { Fits B.told device.new side.new }
 {
     device.fail_next(ErrCode::IO, FaultEffect::New);
@@ -135,7 +136,7 @@ fn plays<B: NamesDeeds + Send>(
 )
     requires told { opened.told ≡ true }
     requires named { (opened.table ≡ B.deeds) × (opened.told ≡ B.told) }
-    requires fits { Fits B.told device.old opened.blocks }
+    requires fits { Fits B.told device.old (map uncalled opened.blocks) }
     requires blocks { opened.blocks ≡ zero_blocks 16 2 }
     ensures { (device.new.device.count ≡ 2) × (device.new.device.size ≡ 16) }
 {

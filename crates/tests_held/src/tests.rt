@@ -102,13 +102,13 @@ struct Disk<B: Naming> {
 impl<B: Naming> Model for Disk<B> {
     ghost use Rattle.std.specs.Prelude.{◌≡◌};
     ghost use Rattle.blockdev.specs.Watching.{Watch};
-    ghost use Rattle.deeds.specs.Shown.{AreTold};
+    ghost use Rattle.deeds.specs.Shown.{AreTold, bytes_of};
 
     ghost Value = { Watch };
 
     ghost view = { λ d. d.device };
 
-    ghost invariant = { λ d. AreTold B.told d.device.device d.side × (d.device.device.count ≡ 64) × (d.device.device.size ≡ 16) };
+    ghost invariant = { λ d. AreTold B.told d.device.device (bytes_of d.side) × (d.device.device.count ≡ 64) × (d.device.device.size ≡ 16) };
 }
 
 /// Makes the device call of an errand, which is one for this device. Macros say so, since the call requires it.

@@ -9,7 +9,7 @@ use std::{env, fs, process};
 use textline::Printer;
 
 const USAGE: &str =
-    "pcache: usage: pcache run | pcache storm THREADS STEPS [PATH] | pcache torture SEED ROUNDS | pcache over PATH SIZE\n";
+    "pcache: usage: pcache run | pcache storm THREADS STEPS [PATH] | pcache torture SEED ROUNDS | pcache over PATH SIZE | pcache shards SHARDS THREADS STEPS\n";
 
 /// What a run over a file is to give.
 #[derive(Clone, Copy)]

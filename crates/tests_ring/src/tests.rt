@@ -3,6 +3,7 @@
 ghost use Rattle.std.specs.Prelude.{◌≡◌, ◌≤◌, ◌<◌, false, true, [], replicate, IfOk};
 ghost use Rattle.crossbeam_queue.specs.Passes.{view};
 ghost use Rattle.blockdev.specs.Jobs.{IsJobFor};
+ghost use Rattle.deeds.specs.Shown.{uncalled};
 ghost use Rattle.deeds.specs.declared.views.Place.TheVariants.{Home};
 ghost use Rattle.ring.specs.Serving.{Serves, Carries};
 
@@ -60,7 +61,7 @@ fn fills<B: NamesDeeds, R: Wait>(
     count: u32,
 ) -> Result<u32, Refusal>
     requires pass { Serves ring.now pass.old × Carries 7 128 geometry.now.page B.deeds pass.old }
-    requires home { desk.old ≡ replicate 128 (Home []) }
+    requires home { desk.old ≡ replicate 128 (Home (uncalled [])) }
     requires count { count ≤ 128 }
     ensures { Serves ring.now pass.new }
 {

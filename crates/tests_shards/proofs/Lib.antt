@@ -1,4 +1,3 @@
 pub mod Hands
-pub mod Seen
 pub mod Strangers
 pub mod Told

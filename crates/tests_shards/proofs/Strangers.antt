@@ -5,7 +5,7 @@ use Rattle.std.specs.Prelude.{All, if◌then◌else◌}
 use Rattle.held.specs.Shown.{SeatSeen}
 use Rattle.shared.specs.ShardNames.{CacheNames, names_at}
 use Rattle.shared.specs.ShardParts.{AllBoth}
-use Rattle.shared.specs.ShardSeats.{AreOf, AreSeated, part}
+use Rattle.shared.specs.ShardSeats.{AreCallers, AreSeated, part}
 
 -- the name of each of the parts passes, where each source's does
 pub names_pass : {X : Type 0} (Q : CacheNames → X → Type 0) (name : X → ℕ) (P : ℕ → Type 0) → ((n : CacheNames) (s : X) → Q n s → n.name ≡ name s)
@@ -28,11 +28,11 @@ names_low most (n ∷ ns) some low (suc k) = names_low most ns some (λ j less. 
 
 -- seats of caches with high names
 pub seats_high : (most : ℕ) (parts : List CacheNames) (rows : List (List SeatSeen)) → ((k : ℕ) → k < length parts → most ≤ (names_at parts k).name)
-    → All (AreOf parts) rows → All (λ s. (k : ℕ) → k < length s → most ≤ (part s k).name) rows
+    → AreCallers parts rows → All (λ s. (k : ℕ) → k < length s → most ≤ (part s k).name) rows
 seats_high most parts rows high are i d less k under =
     let is = are i d less in
     let inside : k < length parts = subst (λ n. k < n) is.count under in
-    omega (arith, high k inside, (is.each k inside).0)
+    omega (arith, high k inside, (is.each k inside).1)
 
 -- are of no cache with a low name
 pub strange_seated : (names : ℕ → CacheNames) (most : ℕ) (seats : List SeatSeen) → ((k : ℕ) → (names k).name < most)

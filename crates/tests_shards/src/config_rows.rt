@@ -18,20 +18,36 @@ enum Fate {
     Lost,
 }
 
-/// What comes of so many sources, of which the last has the name of the first where `twice` says so, and so many callers.
+const PLAIN: Plan = Plan {
+    events: 8,
+    fails: false,
+    twice: false,
+    misfits: false,
+};
+
+const TWICE: Plan = Plan {
+    events: 8,
+    fails: false,
+    twice: true,
+    misfits: false,
+};
+
+const MISFIT: Plan = Plan {
+    events: 8,
+    fails: false,
+    twice: false,
+    misfits: true,
+};
+
+/// What comes of so many sources of this plan, and so many callers.
 fn fate_of<R: Wait>(
     rt: &R,
     alloc: Global,
     count: u8,
-    twice: bool,
+    plan: Plan,
     callers: u64,
 ) -> Result<Fate, Refusal> {
     let geometry = geometry()?;
-    let plan = Plan {
-        events: 8,
-        fails: false,
-        twice,
-    };
     let sources = sources(alloc, &geometry, u64::from(count), FIRST, plan, None)?;
     let names = names_of(alloc, &sources)?;
     match ShardParts::make(rt, alloc, &geometry, sources, callers) {
@@ -70,21 +86,23 @@ fn is_all_back(unmade: &Unmade<ScriptDevice, GatedTrail<'_>>, names: &[u64]) -> 
 }
 
 #[test]
-fn a_cache_has_1_to_16_shards_of_different_names_and_1_to_64_callers(
+fn a_cache_has_1_to_16_shards_of_different_names_with_catalogs_that_fit_and_1_to_64_callers(
     rt: HostRuntime,
 ) -> Result<(), Fail> {
-    for (count, twice, callers, wanted) in [
-        (1, false, 1, Fate::Made),
-        (16, false, 2, Fate::Made),
-        (2, false, 64, Fate::Made),
-        (0, false, 2, Fate::Refused),
-        (17, false, 2, Fate::Refused),
-        (3, true, 2, Fate::Refused),
-        (2, true, 2, Fate::Refused),
-        (3, false, 0, Fate::Refused),
-        (3, false, 65, Fate::Refused),
+    for (count, plan, callers, wanted) in [
+        (1, PLAIN, 1, Fate::Made),
+        (16, PLAIN, 2, Fate::Made),
+        (2, PLAIN, 64, Fate::Made),
+        (0, PLAIN, 2, Fate::Refused),
+        (17, PLAIN, 2, Fate::Refused),
+        (3, TWICE, 2, Fate::Refused),
+        (2, TWICE, 2, Fate::Refused),
+        (1, MISFIT, 2, Fate::Refused),
+        (3, MISFIT, 2, Fate::Refused),
+        (3, PLAIN, 0, Fate::Refused),
+        (3, PLAIN, 65, Fate::Refused),
     ] {
-        let fate = fate_of(&rt, rt.alloc(), count, twice, callers)?;
+        let fate = fate_of(&rt, rt.alloc(), count, plan, callers)?;
         assert!(&rt; fate == wanted, "{count} sources, {callers} callers");
     }
     Ok(())

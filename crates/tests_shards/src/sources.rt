@@ -6,6 +6,7 @@ ghost use Rattle.shared.specs.Keeps.{IsDisk};
 use crate::gated_trail::GatedTrail;
 use crate::turnstile::Turnstile;
 use blockdev::{FaultEffect, ScriptDevice};
+use catalog::Catalog;
 use pc_types::{ErrCode, Geometry, Refusal};
 use shared::shards::parts::Source;
 use std::alloc::Global;
@@ -36,6 +37,8 @@ pub(crate) struct Plan {
     pub(crate) fails: bool,
     /// Whether the last source has the name of the first.
     pub(crate) twice: bool,
+    /// Whether the catalog of shard 0 is for a device of fewer blocks.
+    pub(crate) misfits: bool,
 }
 
 impl Plan {
@@ -43,18 +46,21 @@ impl Plan {
         events: 1_000,
         fails: false,
         twice: false,
+        misfits: false,
     };
 
     pub(crate) const LONG: Plan = Plan {
         events: 100_000,
         fails: false,
         twice: false,
+        misfits: false,
     };
 
     pub(crate) const FAILING: Plan = Plan {
         events: 1_000,
         fails: true,
         twice: false,
+        misfits: false,
     };
 
     /// The name of a shard.
@@ -89,8 +95,14 @@ fn source<'a>(
     if plan.fails && shard == 0 {
         device.fail_next(ErrCode::IO, FaultEffect::Old);
     }
+    let sizes = if plan.misfits && shard == 0 {
+        Geometry::new(16, 48, 16, 255)?
+    } else {
+        *geometry
+    };
     Ok(Source {
         name,
+        files: Catalog::new(alloc, &sizes),
         trail: GatedTrail {
             trail,
             turnstile: if shard == 0 { turnstile } else { None },

@@ -268,6 +268,7 @@ fn era_over<B: Naming + Send + Sync, D: BlockDevice + Send, R: Threads + Wait + 
     requires device { IsDisk B.sizes (D.told parts.device) }
     requires deeds { (parts.deeds.table ≡ B.deeds) × (parts.deeds.told ≡ B.told) × (parts.deeds.blocks ≡ B.blocks) }
     requires blocks { AreBlocksOf B.told B.blocks (D.told parts.device) }
+    requires calls { (D.told parts.device).calls ≡ B.calls }
     requires seats { AreFresh B.table B.name seats.items }
     ensures { IfSome result (λ l. IsDisk parts.geometry (D.told l.device)) }
 {

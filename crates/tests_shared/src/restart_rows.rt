@@ -56,6 +56,7 @@ fn first_over<B: Naming, D: BlockDevice, R: Wait>(
     requires device { IsDisk B.sizes (D.told parts.device) }
     requires deeds { (parts.deeds.table ≡ B.deeds) × (parts.deeds.told ≡ B.told) × (parts.deeds.blocks ≡ B.blocks) }
     requires blocks { AreBlocksOf B.told B.blocks (D.told parts.device) }
+    requires calls { (D.told parts.device).calls ≡ B.calls }
     requires seats { AreFresh B.table B.name seats.items }
     ensures { IfSome result (λ r. IsDisk parts.geometry (D.told r.1)) }
 {
@@ -212,6 +213,7 @@ fn second_over<B: Naming, D: BlockDevice, R: Wait>(
     requires device { IsDisk B.sizes (D.told parts.device) }
     requires deeds { (parts.deeds.table ≡ B.deeds) × (parts.deeds.told ≡ B.told) × (parts.deeds.blocks ≡ B.blocks) }
     requires blocks { AreBlocksOf B.told B.blocks (D.told parts.device) }
+    requires calls { (D.told parts.device).calls ≡ B.calls }
     requires seats { AreFresh B.table B.name seats.items }
 {
     let (cache, own) = SharedCache::<B, D, FullTrail>::of(alloc, parts);

@@ -20,7 +20,7 @@ use crate::thread_rows::{
     shares_a_file, tries_again, writes_page,
 };
 use crate::worker_rows::{
-    closes_with_a_full_ring, reads_beside_a_write, stops_with_a_full_ring, wakes_each_time,
+    Waking, closes_with_a_full_ring, reads_beside_a_write, stops_with_a_full_ring, wakes,
 };
 use blockdev::{BlockDevice, FaultEffect, GatedDevice, ScriptDevice};
 use cursor::Seek;
@@ -63,7 +63,7 @@ enum Row {
     TellsOfAFault,
     TellsOfALostFlush,
     TriesAgain,
-    WakesEachTime,
+    Wakes(Waking),
 }
 
 /// Makes a cache of the parts and runs the row over it.
@@ -87,6 +87,7 @@ fn runs_over<B: Naming + Send + Sync, D: BlockDevice + Send, R: Threads + Wait +
     requires device { IsDisk B.sizes (D.told parts.device) }
     requires deeds { (parts.deeds.table ≡ B.deeds) × (parts.deeds.told ≡ B.told) × (parts.deeds.blocks ≡ B.blocks) }
     requires blocks { AreBlocksOf B.told B.blocks (D.told parts.device) }
+    requires calls { (D.told parts.device).calls ≡ B.calls }
     requires seats { AreFresh B.table B.name seats.items }
 {
     let (cache, own) = SharedCache::<B, D, FullTrail>::of(alloc, parts);
@@ -99,7 +100,7 @@ fn runs_over<B: Naming + Send + Sync, D: BlockDevice + Send, R: Threads + Wait +
         Row::Leaves(story) => return leaves_a_history(rt, alloc, cache, own, seats, story),
         Row::ReadsBesideAWrite => return reads_beside_a_write(rt, &cache, turnstile, own, seats),
         Row::StopsWithAFullRing => return stops_with_a_full_ring(rt, &cache, own, seats),
-        Row::WakesEachTime => return wakes_each_time(rt, &cache, turnstile, own, seats),
+        Row::Wakes(waking) => return wakes(rt, &cache, turnstile, own, seats, waking),
         _ => {}
     }
     match two_of::<B>(&mut seats) {
@@ -371,7 +372,7 @@ fn trail_for(alloc: Global, row: Row) -> Result<FullTrail, Refusal> {
         Row::PassesOverALongFile | Row::PassesOverFaults => {
             FullTrail::new(alloc, 100_000, 8_000_000)?
         }
-        Row::WakesEachTime => FullTrail::new(alloc, 20_000, 1_000_000)?,
+        Row::Wakes(_) => FullTrail::new(alloc, 20_000, 1_000_000)?,
         _ => FullTrail::new(alloc, 1000, 20000)?,
     };
     Ok(trail)
@@ -391,7 +392,9 @@ fn over_a_cache<R: Threads + Wait + Sync>(
     let mut script = ScriptDevice::new(alloc, 16, 64)?;
     let trail = trail_for(alloc, row)?;
     match row {
-        Row::TellsOfAFault => script.fail_next(ErrCode::IO, FaultEffect::Old),
+        Row::TellsOfAFault | Row::Wakes(Waking::AfterAFault) => {
+            script.fail_next(ErrCode::IO, FaultEffect::Old)
+        }
         Row::TellsOfALostFlush => script.fail_next_flush(ErrCode::IO),
         _ => {}
     }
@@ -501,7 +504,13 @@ fn a_call_that_waited_for_a_fill_that_failed_tries_again(rt: HostRuntime) -> Res
 
 #[test]
 fn workers_who_sleep_are_woken_each_time(rt: HostRuntime) -> Result<(), Fail> {
-    assert!(&rt; over_a_cache(&rt, rt.alloc(), Row::WakesEachTime)?);
+    assert!(&rt; over_a_cache(&rt, rt.alloc(), Row::Wakes(Waking::EachTime))?);
+    Ok(())
+}
+
+#[test]
+fn a_flusher_who_sleeps_is_woken_by_a_write_that_fails(rt: HostRuntime) -> Result<(), Fail> {
+    assert!(&rt; over_a_cache(&rt, rt.alloc(), Row::Wakes(Waking::AfterAFault))?);
     Ok(())
 }
 

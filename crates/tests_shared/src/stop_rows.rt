@@ -85,6 +85,7 @@ fn stops_over<
     requires device { IsDisk B.sizes (D.told parts.device) }
     requires deeds { (parts.deeds.table ≡ B.deeds) × (parts.deeds.told ≡ B.told) × (parts.deeds.blocks ≡ B.blocks) }
     requires blocks { AreBlocksOf B.told B.blocks (D.told parts.device) }
+    requires calls { (D.told parts.device).calls ≡ B.calls }
     requires seats { AreFresh B.table B.name seats.items }
 {
     let (cache, mut own) = SharedCache::<B, D, T>::of(alloc, parts);

@@ -93,18 +93,24 @@ pub(crate) fn ends_a_write<B: Naming, D: BlockDevice, R: Wait>(
     }
 }
 
-/// A flusher and an I/O worker sleep till a page becomes dirty, over and over, and each time both are woken: the page is written. Where
-/// one is not woken, nor by the stop, this lasts as long as a test may.
-pub(crate) fn wakes_each_time<
-    B: Naming + Send + Sync,
-    D: BlockDevice + Send,
-    R: Threads + Wait + Sync,
->(
+/// What is to wake workers.
+#[derive(Clone, Copy)]
+pub(crate) enum Waking {
+    /// Each page that becomes dirty.
+    EachTime,
+    /// A write that fails: its page is to be written again.
+    AfterAFault,
+}
+
+/// A flusher and an I/O worker sleep till there is work for them, and each time they are woken: the page is written. Where one is not
+/// woken, nor by the stop, this lasts as long as a test may.
+pub(crate) fn wakes<B: Naming + Send + Sync, D: BlockDevice + Send, R: Threads + Wait + Sync>(
     rt: &R,
     cache: &Tested<B, D>,
     turnstile: &Turnstile,
     mut own: Worker,
     mut seats: Vec<Seat>,
+    waking: Waking,
 ) -> bool
     requires own { IsWorkerOf cache.now.ring B.name B.table B.deeds B.sizes own }
     requires seats { All (λ s. s.table ≡ B.table) seats.items }
@@ -125,7 +131,7 @@ pub(crate) fn wakes_each_time<
         { work(rt, cache, own, worker) },
         move ||
             requires { caller.table ≡ B.table }
-        { writes_and_stops(rt, cache, turnstile, caller, handle) },
+        { writes_and_stops(rt, cache, turnstile, caller, handle, waking) },
     );
     is_written && is_done
 }
@@ -176,22 +182,45 @@ fn flushes<B: Naming, D: BlockDevice, R: Wait>(
     true
 }
 
-/// Writes pages, each once the workers wrote the one before and had a moment to fall asleep, and tells them to stop.
+/// Gives the workers what is to wake them, and tells them to stop.
 fn writes_and_stops<B: Naming, D: BlockDevice, R: Wait>(
     rt: &R,
     cache: &Tested<B, D>,
     turnstile: &Turnstile,
     mut caller: Seat,
     handle: Handle,
+    waking: Waking,
 ) -> bool
     requires { caller.table ≡ B.table }
 {
-    let is_written = writes_each_time(rt, cache, turnstile, &mut caller, &handle);
+    let is_written = match waking {
+        Waking::EachTime => writes_each_time(rt, cache, turnstile, &mut caller, &handle),
+        Waking::AfterAFault => is_written_again(rt, cache, turnstile, &mut caller, &handle),
+    };
     cache.stop(rt);
     is_written
 }
 
-/// Writes pages, and waits for the device call of each.
+/// Writes a page. The device call of its write is held till the flusher sleeps, and fails: the flusher writes the page again, though no
+/// call comes.
+fn is_written_again<B: Naming, D: BlockDevice, R: Wait>(
+    rt: &R,
+    cache: &Tested<B, D>,
+    turnstile: &Turnstile,
+    caller: &mut Seat,
+    handle: &Handle,
+) -> bool
+    requires { caller.old.table ≡ B.table }
+{
+    turnstile.shut();
+    let is_dirty = writes_page(rt, cache, caller, handle, 1);
+    let is_held = turnstile.wait_for_a_call();
+    let calls = turnstile.calls();
+    let is_failed = turnstile.open_late();
+    is_dirty && is_held && is_failed && turnstile.wait_past(calls)
+}
+
+/// Writes pages, each once the workers wrote the one before and had a moment to fall asleep.
 fn writes_each_time<B: Naming, D: BlockDevice, R: Wait>(
     rt: &R,
     cache: &Tested<B, D>,

@@ -20,8 +20,8 @@ const NOTHING: Reserve = Reserve {
     others: 0,
 };
 
-const USAGE: &str =
-    "pcache: usage: pcache run | pcache storm THREADS STEPS [PATH] | pcache torture SEED ROUNDS | pcache over PATH SIZE\n";
+pub const USAGE: &str =
+    "pcache: usage: pcache run | pcache storm THREADS STEPS [PATH] | pcache torture SEED ROUNDS | pcache over PATH SIZE | pcache shards SHARDS THREADS STEPS\n";
 
 /// The refusals that may come of a storm whose device is honest: no frame, no block, too many dirty pages, too many requests in flight,
 /// and no turn. So memory is not wanted, the trail is not full, and no number is a stranger's.
@@ -41,7 +41,7 @@ struct Row<'a> {
 }
 
 /// The output of a storm, whose refusals are `some` in the line of them if there are and may be.
-fn with_due(alloc: Global, output: &str, faults: u64) -> Result<String, AllocError> {
+pub fn with_due(alloc: Global, output: &str, faults: u64) -> Result<String, AllocError> {
     let mut text = String::new(alloc);
     for line in output.split_inclusive('\n') {
         match line.strip_prefix("refused ") {

@@ -12,7 +12,7 @@ use torture::{
 };
 
 const USAGE: &str =
-    "pcache: usage: pcache run | pcache storm THREADS STEPS [PATH] | pcache torture SEED ROUNDS | pcache over PATH SIZE\n";
+    "pcache: usage: pcache run | pcache storm THREADS STEPS [PATH] | pcache torture SEED ROUNDS | pcache over PATH SIZE | pcache shards SHARDS THREADS STEPS\n";
 
 /// What a torture of these words is to give.
 #[derive(Clone, Copy)]

@@ -1,9 +1,9 @@
 -- Each step of the cache keeps its desk: the deed of a block is out while a request of it is in flight.
-use Rattle.std.proofs.Common.{◌≡◌, ◌≢◌, ℕ, suc, ◌<◌, Bool, true, false, List, [], ◌∷◌, length, map, refl, ap, sym, subst}
+use Rattle.std.proofs.Common.{◌≡◌, ◌≢◌, ℕ, suc, ◌+◌, ◌<◌, Bool, true, false, List, [], ◌∷◌, length, map, refl, ap, sym, subst}
 use Rattle.std.proofs.Common.{◌∙◌, arith, inl, inr}
 use Rattle.std.specs.Prelude.{Option, Some, None, slice_get, slice_set}
 use Rattle.std.specs.FinMap as finmap
-use Rattle.std.specs.FinMap.{get-empty}
+use Rattle.std.specs.FinMap.{get-empty, len-empty}
 use Rattle.std.specs.Ordering.{nat_cmp}
 use Rattle.std.proofs.lemmas.List.{length-set}
 use Rattle.pc_types.specs.Limits.{Sizes}
@@ -11,14 +11,16 @@ use Rattle.pc_types.specs.declared.ids.Serial.{Serial}
 use Rattle.pc_types.specs.declared.kind.Kind.{Kind}
 use Rattle.blockdev.specs.Jobs.{Task, FinishedTask}
 use Rattle.cachecore.specs.Replies.{end_of}
-use Rattle.deeds.specs.Shown.{Settles}
+use Rattle.deeds.specs.Shown.{Settles, out_count, uncalled}
 use Rattle.deeds.specs.Rules.{NoneOut}
 use Rattle.deeds.specs.Views.{home_in}
+use Rattle.deeds.specs.declared.views.Block.{Block}
 use Rattle.deeds.specs.declared.views.Given.{Given}
 use Rattle.deeds.specs.declared.views.Place.{Place}
 use Rattle.deeds.specs.declared.views.Place.TheVariants.{Home, Out}
 use Rattle.deeds.proofs.Lists.{get_set, mapped_at, set_else, set_here}
-use Rattle.deeds.proofs.Known.{home_unless_out}
+use Rattle.deeds.proofs.Counts.{none_is_out}
+use Rattle.deeds.proofs.Known.{home_unless_out, out_given, out_settled}
 use Rattle.machine.specs.declared.event.End.{End}
 use Rattle.machine.specs.declared.event.Event.{Event}
 use Rattle.machine.specs.declared.event.Event.TheVariants as event
@@ -29,6 +31,7 @@ use Rattle.machine.specs.Sound.{Sound}
 use Rattle.machine.specs.State.{State, Request}
 use Rattle.machine.specs.Step.{Step}
 use Rattle.machine.proofs.sound.Steps.{steps_stay_sound}
+use Rattle.maps.proofs.Lengths.{len_one_gone, len_put_new}
 use Rattle.runs.proofs.events.Lookups.{get-insert1, get-remove1}
 use Rattle.runs.proofs.moments.KeptRequests.{Begun, Kept, Over, is_job, of_requests, stood}
 use Rattle.runs.proofs.views.View.{put1, put1_else, put1_tells}
@@ -49,35 +52,36 @@ turned s new k = record {
 }
 
 abbrev as_given : Place → Option Given
-as_given (Home bytes) = None
+as_given (Home now) = None
 as_given (Out g) = Some g
 
 abbrev is_out : Place → Bool
-is_out (Home bytes) = false
+is_out (Home now) = false
 is_out (Out g) = true
 
 pub same_given : (g h : Given) → Out g ≡ Out h → g ≡ h
 same_given g h e = (let k : Some g ≡ Some h = ap as_given e in cc)
 
-pub home_not_out : (bytes : List ℕ) (g : Given) → Home bytes ≡ Out g → ⊥
-home_not_out bytes g e = absurd (let k : false ≡ true = ap is_out e in cc)
+pub home_not_out : (now : Block) (g : Given) → Home now ≡ Out g → ⊥
+home_not_out now g e = absurd (let k : false ≡ true = ap is_out e in cc)
 
 -- the deed that is out of one place
 pub same_out : (places : List Place) (k : ℕ) (g h : Given) → slice_get places k ≡ Some (Out g)
     → slice_get places k ≡ Some (Out h) → g ≡ h
 same_out places k g h a b = same_given g h (same_value (slice_get places k) (Out g) (Out h) a b)
 
-all_homes : (blocks : List (List ℕ)) → length (map Home blocks) ≡ length blocks
+all_homes : (blocks : List (List ℕ)) → length (map Home (map uncalled blocks)) ≡ length blocks
 all_homes [] = refl
 all_homes (b ∷ bs) = ap suc (all_homes bs)
 
 pub covered_first : (files : Catalog) (sizes : Sizes) (name : ℕ) (blocks : List (List ℕ)) → length blocks ≡ sizes.blocks
-    → IsCovered (adopted sizes name files) (map Home blocks)
+    → IsCovered (adopted sizes name files) (map Home (map uncalled blocks))
 covered_first files sizes name blocks count = record {
   count = all_homes blocks ∙ count;
+  busy = none_is_out (map uncalled blocks) ∙ sym (len-empty nat_cmp Request);
   asked = λ t x is. absurd (let a = get-empty {X = Request} nat_cmp t in let j : None ≡ Some x = sym a ∙ is in cc);
   owned = λ k given at.
-      let a = mapped_at Home blocks k (Out given) at in absurd (home_not_out a.0 given a.2);
+      let a = mapped_at Home (map uncalled blocks) k (Out given) at in absurd (home_not_out a.0 given a.2);
 }
 
 module _ (core : State) (places : List Place) (c : IsCovered core places) where
@@ -103,6 +107,7 @@ module _ (core : State) (places : List Place) (c : IsCovered core places) where
       let back = turned core next kept in
       record {
         count = c.count ∙ ap (λ (s : Sizes). s.blocks) (sym kept.sizes);
+        busy = c.busy ∙ sym kept.len;
         asked = λ t x is.
             let a = stood core next kept t x is in
             let g = c.asked t a.0 a.1 in record {
@@ -143,6 +148,14 @@ module _ (core : State) (places : List Place) (c : IsCovered core places) where
 
     still : (i : ℕ) (y : Request) → finmap.get core.requests i ≡ Some y → finmap.get next.requests i ≡ Some y
     still i y was = begun_at i ∙ put1_else (finmap.get core.requests) u.0 (Some begun.x) i (older i y was) ∙ was
+
+    unasked : (o : Option Request) → finmap.get core.requests core.next ≡ o → finmap.get core.requests core.next ≡ None
+    unasked None was = was
+    unasked (Some y) was = absurd (let a = sound.serial core.next y was in omega arith)
+
+    one_more : finmap.len next.requests ≡ finmap.len core.requests + 1
+    one_more = ap finmap.len begun.requests
+        ∙ len_put_new core.requests core.next begun.x (unasked (finmap.get core.requests core.next) refl)
 
     -- no other request in flight has its block
     unheld : (i : ℕ) (y : Request) → finmap.get core.requests i ≡ Some y → y.block ≢ x.block
@@ -207,6 +220,7 @@ module _ (core : State) (places : List Place) (c : IsCovered core places) where
           (Out (record { task = task; before = home_in places task.block })))
       covered_begun = record {
         count = length-set places task.block (Out given) ∙ c.count ∙ ap (λ (s : Sizes). s.blocks) (sym begun.sizes);
+        busy = out_given places task.block given at_home ∙ ap (λ n. n + 1) c.busy ∙ sym one_more;
         asked = λ i y at. elim (put1_tells (finmap.get core.requests) u.0 (Some begun.x) i) [
           | inl a ↦
               let same : x ≡ y = same_value (finmap.get next.requests u.0) x y is
@@ -287,10 +301,19 @@ module _ (core : State) (places : List Place) (c : IsCovered core places) where
             | inr a ↦ a
           ]
 
+      one_less : out_count after ≡ finmap.len next.requests
+      one_less =
+          let out = out_settled told places after finished s in
+          let was = c.busy in
+          let gone = len_one_gone core.requests u owner.x ends_own in
+          let left = ap finmap.len ends.requests in
+          omega (arith, out, was, gone, left)
+
       pub covered_back : IsCovered next after
       covered_back = record {
         count = ap length s.home ∙ length-set places finished.block (Home s.left) ∙ c.count
             ∙ ap (λ (z : Sizes). z.blocks) (sym ends.sizes);
+        busy = one_less;
         asked = λ i y at. elim (put1_tells (finmap.get core.requests) u None i) [
           | inl a ↦ absurd (let j : None ≡ Some y = sym a.1 ∙ sym (request_at i) ∙ at in cc)
           | inr a ↦ asked_left i y a.0 (sym a.1 ∙ sym (request_at i) ∙ at)

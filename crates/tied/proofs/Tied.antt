@@ -12,14 +12,16 @@ use Rattle.pc_types.specs.declared.kind.Kind.TheVariants.{Flush}
 use Rattle.blockdev.specs.Jobs.{Task, FinishedTask}
 use Rattle.cachecore.specs.Replies.{end_of, outcome_of}
 use Rattle.deeds.specs.Rules.{Knows}
-use Rattle.deeds.specs.Shown.{Settles, known}
+use Rattle.deeds.specs.Shown.{Settles, bytes_of, known, uncalled}
 use Rattle.deeds.specs.Views.{home_in}
+use Rattle.deeds.specs.declared.views.Block.{Block}
 use Rattle.deeds.specs.declared.views.Given.{Given}
 use Rattle.deeds.specs.declared.views.Place.{Place}
 use Rattle.deeds.specs.declared.views.Place.TheVariants.{Home, Out}
+use Rattle.deeds.proofs.Counts.{contents_at, contents_uncalled}
 use Rattle.deeds.proofs.Keeps.{all_home}
 use Rattle.deeds.proofs.Lists.{get_set, mapped_at}
-use Rattle.deeds.proofs.Known.{known_at, known_given, known_opened, known_settled}
+use Rattle.deeds.proofs.Known.{bytes_at, bytes_given, bytes_opened, bytes_settled, known_opened}
 use Rattle.machine.specs.declared.event.End.{End}
 use Rattle.machine.specs.declared.event.Event.{Event}
 use Rattle.machine.specs.declared.event.Event.TheVariants as event
@@ -52,7 +54,7 @@ use Rattle.tied.proofs.Told.{goes_on, honest_of}
 -- ---- which end an entry makes
 
 -- what a history leaves out of a refused end is of no matter
-made_noted : (e : Event) (r : Reply) → end_made (entries.noted e r) r ≡ end_made e r
+pub made_noted : (e : Event) (r : Reply) → end_made (entries.noted e r) r ≡ end_made e r
 made_noted (event.End kind end) (reply.Refused why) = refl
 made_noted e r = refl
 
@@ -63,7 +65,7 @@ none_made e (reply.Refused why) other = refl
 none_made e r other = refl
 
 -- nor does one that begins a request
-job_made : (s next : State) (e : Event) (t : Serial) → Step s e (reply.Job t) next → (o : Option End)
+pub job_made : (s next : State) (e : Event) (t : Serial) → Step s e (reply.Job t) next → (o : Option End)
     → end_made e (reply.Job t) ≡ o → end_made e (reply.Job t) ≡ None
 job_made s next e t step None made = made
 job_made s next e t step (Some end) made =
@@ -77,14 +79,14 @@ noted_same writing r s j = refl
 -- ---- the first state
 
 pub tied_first : (files : Catalog) (sizes : Sizes) (name : ℕ) (blocks : List (List ℕ)) → MayBegin files sizes name blocks
-    → Tied files sizes name blocks [] (adopted sizes name files) (map Home blocks)
+    → Tied files sizes name blocks [] (adopted sizes name files) (map Home (map uncalled blocks))
 tied_first files sizes name blocks first = record {
   world = world_over files sizes name blocks;
   first = first;
   goes = refl;
   core_is = refl;
-  device = sym (known_opened blocks);
-  writes = λ k given at. let a = mapped_at Home blocks k (Out given) at in absurd (home_not_out a.0 given a.2);
+  device = sym (bytes_opened (map uncalled blocks) ∙ contents_uncalled blocks);
+  writes = λ k given at. let a = mapped_at Home (map uncalled blocks) k (Out given) at in absurd (home_not_out a.0 given a.2);
 }
 
 module _ (files : Catalog) (sizes : Sizes) (name : ℕ) (blocks : List (List ℕ)) (history : List Entry) (core : State)
@@ -178,7 +180,7 @@ module _ (files : Catalog) (sizes : Sizes) (name : ℕ) (blocks : List (List ℕ
       first = t.first;
       goes = acts_on seat e (reply.Job u) next (job_made core next e u step (end_made e (reply.Job u)) refl) step;
       core_is = refl;
-      device = t.device ∙ sym (known_given places task.block given at_home);
+      device = t.device ∙ sym (bytes_given places task.block given at_home);
       writes = λ k g at. elim (get_set places task.block k (Out given) (Out g) at) [
         | inl a ↦ subst Writes (same_given given g a.1) writes_now
         | inr a ↦ writes_still k g a.1
@@ -213,18 +215,18 @@ module _ (files : Catalog) (sizes : Sizes) (name : ℕ) (blocks : List (List ℕ
     given_kind = ap (λ (a : Task). a.kind) own.task
 
     -- the block had the bytes that it had when the deed was given
-    before_is : s.given.before ≡ block_bytes w x.block
-    before_is = sym (get_there w.device x.block s.given.before
+    before_is : s.given.before.bytes ≡ block_bytes w x.block
+    before_is = sym (get_there w.device x.block s.given.before.bytes
         (ap (slice_get w.device) own.block_is ∙ ap (λ d. slice_get d finished.block) t.device
-        ∙ known_at places finished.block (Out s.given) s.out))
+        ∙ bytes_at places finished.block (Out s.given) s.out))
 
     writing_is : x.kind ≡ Flush → bytes_in (finmap.get w.writing u) ≡ s.given.task.bytes
     writing_is k = ap (λ i. bytes_in (finmap.get w.writing i)) (sym its_serial)
         ∙ ap bytes_in (t.writes finished.block s.given s.out (given_kind ∙ k))
 
-    fate_is : Fated w u x (outcome_of s.given.task.kind finished.outcome finished.bytes) s.left
-    fate_is = fated w u x s.given.task.kind (sym given_kind) finished.outcome s.given.before s.given.task.bytes
-        finished.bytes s.left before_is (λ k. writing_is (sym given_kind ∙ k)) (s.comes.leaves tells)
+    fate_is : Fated w u x (outcome_of s.given.task.kind finished.outcome finished.bytes) s.left.bytes
+    fate_is = fated w u x s.given.task.kind (sym given_kind) finished.outcome s.given.before.bytes s.given.task.bytes
+        finished.bytes s.left.bytes before_is (λ k. writing_is (sym given_kind ∙ k)) (s.comes.leaves tells)
 
     abbrev fate : Fate
     fate = fate_is.fate
@@ -249,9 +251,9 @@ module _ (files : Catalog) (sizes : Sizes) (name : ℕ) (blocks : List (List ℕ
         (sym (made_noted (event.End kind end) r ∙ made))
         (fate, x, is_here, (tells_it, here (event.End kind end) r next step, refl)))
 
-    device_is : device_after w u x fate.fault fate.lasts ≡ known after
-    device_is = device_left w u x fate s.left fate_is.leaves ∙ ap (λ k. slice_set w.device k s.left) own.block_is
-        ∙ ap (λ d. slice_set d finished.block s.left) t.device ∙ sym (known_settled told places after finished s).0
+    device_is : device_after w u x fate.fault fate.lasts ≡ bytes_of (known after)
+    device_is = device_left w u x fate s.left.bytes fate_is.leaves ∙ ap (λ k. slice_set w.device k s.left.bytes) own.block_is
+        ∙ ap (λ d. slice_set d finished.block s.left.bytes) t.device ∙ sym (bytes_settled told places after finished s)
 
     -- the deed of its block comes home with the bytes that the call left
     pub tied_back : Tied files sizes name blocks (history ++ entry_of seat (event.End kind end) r ∷ []) next after
@@ -275,33 +277,37 @@ module _ (files : Catalog) (sizes : Sizes) (name : ℕ) (blocks : List (List ℕ
   tied_honest = honest_of files sizes name blocks history w t.first t.goes
 
   -- of each block that is of no request in flight, a device that the desk knows has what the world has
-  pub tied_at : (told : Bool) → IsCovered core places → (device : List (List ℕ)) → Knows told device places → (k : ℕ)
+  pub tied_at : (told : Bool) → IsCovered core places → (device : List Block) → Knows told device places → (k : ℕ)
       → k < core.sizes.blocks → ((i : ℕ) (x : Request) → finmap.get core.requests i ≡ Some x → x.block ≢ k)
-      → slice_get device k ≡ slice_get w.device k
+      → slice_get (bytes_of device) k ≡ slice_get w.device k
   tied_at told c device knows k low free =
       let home = is_home core places c k low free in
-      knows.home k (home_in places k) home
-      ∙ sym (ap (λ d. slice_get d k) t.device ∙ known_at places k (Home (home_in places k)) home)
+      contents_at device k (home_in places k) (knows.home k (home_in places k) home)
+      ∙ sym (ap (λ d. slice_get d k) t.device ∙ bytes_at places k (Home (home_in places k)) home)
 
   -- of one that is, it has what the world has, or of a write the write's bytes
-  pub tied_busy : IsCovered core places → (device : List (List ℕ)) → Knows true device places → (t : ℕ) (x : Request)
-      → finmap.get core.requests t ≡ Some x → IsOnItsWay w t x (slice_get device x.block)
+  pub tied_busy : IsCovered core places → (device : List Block) → Knows true device places → (t : ℕ) (x : Request)
+      → finmap.get core.requests t ≡ Some x → IsOnItsWay w t x (slice_get (bytes_of device) x.block)
   tied_busy c device knows u x there =
       let g = c.asked u x there in
       let o = knows.out x.block g.given g.out in
-      let is = ap (λ d. slice_get d x.block) t.device ∙ known_at places x.block (Out g.given) g.out in
-      elim (o.2 refl) [
-        | inl same ↦ inl (o.1 ∙ ap Some same ∙ sym is)
-        | inr wrote ↦ inr (
-          sym (λ i. (g.task i).kind) ∙ wrote.0,
-          ap (λ n. finmap.get w.writing n) (sym (λ i. (g.task i).serial)) ∙ t.writes x.block g.given g.out wrote.0
-              ∙ ap Some (sym wrote.1) ∙ sym o.1,
-        )
+      let has = contents_at device x.block o.0 o.1 in
+      let is = ap (λ d. slice_get d x.block) t.device ∙ bytes_at places x.block (Out g.given) g.out in
+      elim o.2 [
+        | inl same ↦ inl (has ∙ ap (λ (b : Block). Some b.bytes) same ∙ sym is)
+        | inr left ↦ elim (left.1 refl) [
+          | inl same ↦ inl (has ∙ ap Some same ∙ sym is)
+          | inr wrote ↦ inr (
+            sym (λ i. (g.task i).kind) ∙ wrote.0,
+            ap (λ n. finmap.get w.writing n) (sym (λ i. (g.task i).serial)) ∙ t.writes x.block g.given g.out wrote.0
+                ∙ ap Some (sym wrote.1) ∙ sym has,
+          )
+        ]
       ]
 
   -- and with none in flight it is the world's
-  pub tied_whole : (told : Bool) → IsCovered core places → (device : List (List ℕ)) → Knows told device places
-      → core.requests ≡ finmap.empty → device ≡ w.device
+  pub tied_whole : (told : Bool) → IsCovered core places → (device : List Block) → Knows told device places
+      → core.requests ≡ finmap.empty → bytes_of device ≡ w.device
   tied_whole told c device knows resting =
-      sym (known_opened device) ∙ ap known (sym (all_home told device places knows (none_out core places c resting)))
+      ap bytes_of (sym (known_opened device) ∙ ap known (sym (all_home told device places knows (none_out core places c resting))))
       ∙ sym t.device

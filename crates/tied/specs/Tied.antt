@@ -2,12 +2,12 @@
 -- and the end of its request are two holds. A *deed* of each block ties them: who begins a request takes the deed of its
 -- block; who has the deed, and nobody else, makes the device call; and the end brings the deed back, with the bytes that
 -- the block was left with. The lock of the cache keeps the desk: where the deed of each block is.
-use Rattle.std.specs.Prelude.{◌≡◌, ◌⊎◌, ℕ, Bool, true, List, [], ◌∷◌, length, Option, Some, None, slice_get}
+use Rattle.std.specs.Prelude.{◌≡◌, ◌⊎◌, ℕ, Bool, true, List, [], ◌∷◌, count_by, is_some, length, Option, Some, None, slice_get}
 use Rattle.std.specs.FinMap as map
 use Rattle.pc_types.specs.Limits.{Sizes}
 use Rattle.pc_types.specs.declared.kind.Kind.TheVariants.{Flush}
 use Rattle.blockdev.specs.Jobs.{Task}
-use Rattle.deeds.specs.Shown.{known}
+use Rattle.deeds.specs.Shown.{bytes_of, calls_of, known, out_count}
 use Rattle.deeds.specs.declared.views.Given.{Given}
 use Rattle.deeds.specs.declared.views.Place.{Place}
 use Rattle.deeds.specs.declared.views.Place.TheVariants.{Out}
@@ -43,6 +43,10 @@ pub record IsHonest (files : Catalog) (sizes : Sizes) (name : ℕ) (blocks : Lis
   pub device : honest.device ≡ blocks
   pub leads : LeadsHonestly honest.fates (world_over files sizes name blocks) history new
 
+-- how many requests a history ends
+abbrev pub ended_count : List Entry → ℕ
+ended_count history = count_by (λ e. is_some (end_made e.event e.reply)) history
+
 -- ---- tasks
 
 -- the device call of request t of the cache with this name
@@ -69,9 +73,10 @@ pub record IsOwned (core : State) (block : ℕ) (given : Given) : Type 0 where
   pub block_is : x.block ≡ block
   pub task : given.task ≡ task_of core.name given.task.serial x given.task.bytes
 
--- the deed of a block is out while a request of it is in flight, and then alone
+-- the deed of a block is out while a request of it is in flight, and then alone. So there are as many out as in flight
 pub record IsCovered (core : State) (places : List Place) : Type 0 where
   pub count : length places ≡ core.sizes.blocks
+  pub busy : out_count places ≡ map.len core.requests
   pub asked : (t : ℕ) (x : Request) → map.get core.requests t ≡ Some x → IsGiven core places x.block t x
   pub owned : (block : ℕ) (given : Given) → slice_get places block ≡ Some (Out given) → IsOwned core block given
 
@@ -86,13 +91,14 @@ pub record Tied (files : Catalog) (sizes : Sizes) (name : ℕ) (blocks : List (L
   pub first : MayBegin files sizes name blocks
   pub goes : GoesTo (world_over files sizes name blocks) history world
   pub core_is : world.core ≡ core
-  pub device : world.device ≡ known places
+  pub device : world.device ≡ bytes_of (known places)
   -- a write in flight has the bytes of its task
   pub writes : (block : ℕ) (given : Given) → slice_get places block ≡ Some (Out given) → given.task.kind ≡ Flush
       → map.get world.writing given.task.serial ≡ Some given.task.bytes
 
--- both, the second over a device that tells its blocks
+-- both, the second over a device that tells its blocks; and the desk knows of one call for each request that has ended
 pub record IsTied (told : Bool) (files : Catalog) (sizes : Sizes) (name : ℕ) (blocks : List (List ℕ)) (history : List Entry) (core : State)
     (places : List Place) : Type 0 where
   pub covered : IsCovered core places
   pub tied : told ≡ true → Tied files sizes name blocks history core places
+  pub counted : calls_of (known places) ≡ ended_count history

@@ -1,15 +1,16 @@
 //! A cache of shards.
 
 ghost use Rattle.std.specs.Bool.{OnFalse, OnTrue};
-ghost use Rattle.std.specs.Prelude.{◌≡◌, ◌<◌, ◌≤◌, ◌+◌, [], ℕ, IfErr, IfOk, length, true, vec_capacity, vec_len};
+ghost use Rattle.std.specs.Prelude.{◌≡◌, ◌<◌, ◌≤◌, ◌+◌, ◌-◌, [], ℕ, IfErr, IfOk, length, min, true, vec_capacity, vec_len};
 ghost use Rattle.shared.specs.ShardNames.{names_at};
+ghost use Rattle.shared.specs.ShardPlaced.{IsRoom};
 ghost use Rattle.shared.specs.ShardSeats.{IsSeated, is_of};
-ghost use Rattle.shared.specs.ShardWorkers.{AreWorkers};
+ghost use Rattle.shared.specs.ShardWorkers.{AllFrom, AreWorkers, IsFirstOf, IsWorkerAt};
 
 use crate::cache::SharedCache;
 use crate::shards::naming::{Shard, ShardNaming};
-use crate::shards::parts::ShardParts;
-use crate::shards::place::{Place, at_shard, room};
+use crate::shards::parts::{OneParts, ShardParts};
+use crate::shards::place::{Four, Place, Sixteen, Span, at_quarter};
 use crate::shards::seat::ShardSeat;
 use crate::shards::worker::ShardWorker;
 use crate::worker::Worker;
@@ -47,22 +48,7 @@ where
     // how many callers have seats
     pub(crate) callers: u64,
     pub(crate) alloc: Global,
-    pub(crate) place_0: Place<B, D, T, 0>,
-    pub(crate) place_1: Place<B, D, T, 1>,
-    pub(crate) place_2: Place<B, D, T, 2>,
-    pub(crate) place_3: Place<B, D, T, 3>,
-    pub(crate) place_4: Place<B, D, T, 4>,
-    pub(crate) place_5: Place<B, D, T, 5>,
-    pub(crate) place_6: Place<B, D, T, 6>,
-    pub(crate) place_7: Place<B, D, T, 7>,
-    pub(crate) place_8: Place<B, D, T, 8>,
-    pub(crate) place_9: Place<B, D, T, 9>,
-    pub(crate) place_10: Place<B, D, T, 10>,
-    pub(crate) place_11: Place<B, D, T, 11>,
-    pub(crate) place_12: Place<B, D, T, 12>,
-    pub(crate) place_13: Place<B, D, T, 13>,
-    pub(crate) place_14: Place<B, D, T, 14>,
-    pub(crate) place_15: Place<B, D, T, 15>,
+    pub(crate) caches: Sixteen<B, D, T>,
     ghost counted: { shards ≡ B.shards },
     ghost some: { 0 < shards },
     ghost few: { shards ≤ 16 },
@@ -80,51 +66,24 @@ impl<B: ShardNaming, D: BlockDevice, T: Trail + Drop> ShardedCache<B, D, T> {
         requires named { (k : ℕ) → k < length parts → B.names k ≡ names_at parts k }
         ensures count { IfOk result (λ r. length r.1 ≡ B.shards) }
         ensures own { IfOk result (λ r. AreWorkers B.names r.1) }
+        ensures first { IfOk result (λ r. AllFrom (λ k w. IsFirstOf (B.names k) w) 0 r.1) }
         ensures back { IfErr result (λ p. p ≡ parts) }
     {
-        let Ok(rooms) = Rooms::<B, D, T>::new(alloc, parts.count()) else {
+        let Ok(rooms) = Rooms::<SixteenRooms<B, D, T>>::new::<Sixteen<B, D, T>, B, D, T>(
+            alloc,
+            parts.count(),
+        ) else {
             return Err(parts);
         };
         let ShardParts { mut parts, callers } = parts;
         let shards = parts.len() as u64;
         let mut workers = rooms.workers;
-        // the last first
-        let place_15 = Place::of(alloc, rooms.room_15, &mut parts, &mut workers);
-        let place_14 = Place::of(alloc, rooms.room_14, &mut parts, &mut workers);
-        let place_13 = Place::of(alloc, rooms.room_13, &mut parts, &mut workers);
-        let place_12 = Place::of(alloc, rooms.room_12, &mut parts, &mut workers);
-        let place_11 = Place::of(alloc, rooms.room_11, &mut parts, &mut workers);
-        let place_10 = Place::of(alloc, rooms.room_10, &mut parts, &mut workers);
-        let place_9 = Place::of(alloc, rooms.room_9, &mut parts, &mut workers);
-        let place_8 = Place::of(alloc, rooms.room_8, &mut parts, &mut workers);
-        let place_7 = Place::of(alloc, rooms.room_7, &mut parts, &mut workers);
-        let place_6 = Place::of(alloc, rooms.room_6, &mut parts, &mut workers);
-        let place_5 = Place::of(alloc, rooms.room_5, &mut parts, &mut workers);
-        let place_4 = Place::of(alloc, rooms.room_4, &mut parts, &mut workers);
-        let place_3 = Place::of(alloc, rooms.room_3, &mut parts, &mut workers);
-        let place_2 = Place::of(alloc, rooms.room_2, &mut parts, &mut workers);
-        let place_1 = Place::of(alloc, rooms.room_1, &mut parts, &mut workers);
-        let place_0 = Place::of(alloc, rooms.room_0, &mut parts, &mut workers);
+        let caches = Sixteen::<B, D, T>::of(alloc, rooms.caches, &mut parts, &mut workers);
         let cache = ShardedCache {
             shards,
             callers,
             alloc,
-            place_0,
-            place_1,
-            place_2,
-            place_3,
-            place_4,
-            place_5,
-            place_6,
-            place_7,
-            place_8,
-            place_9,
-            place_10,
-            place_11,
-            place_12,
-            place_13,
-            place_14,
-            place_15,
+            caches,
         };
         let own = ShardWorker {
             workers,
@@ -137,7 +96,8 @@ impl<B: ShardNaming, D: BlockDevice, T: Trail + Drop> ShardedCache<B, D, T> {
 impl<B: ShardNaming, D: BlockDevice, T: Trail> ShardedCache<B, D, T> {
     /// How many shards it has.
     pub fn shards(&self) -> u64
-        ensures { result ≡ B.shards }
+        ensures count { result ≡ B.shards }
+        ensures few { (0 < result) × (result ≤ 16) }
     {
         self.shards
     }
@@ -165,93 +125,245 @@ impl<B: ShardNaming, D: BlockDevice, T: Trail> ShardedCache<B, D, T> {
 
     /// The name of a shard's cache, or 0 where there is no such shard.
     pub fn name_of(&self, shard: u64) -> u64
-        ensures { shard < B.shards → result ≡ (B.names shard).name }
+        ensures name { shard < B.shards → result ≡ (B.names shard).name }
+        ensures none { B.shards ≤ shard → result ≡ 0 }
     {
-        at_shard!(self, shard, name(), 0)
+        if shard < self.shards {
+            self.caches.name(shard)
+        } else {
+            0
+        }
     }
 }
 
-/// Room for the caches of so many shards, and for a worker of each.
+/// Room for the caches of four shards.
 #[derive(Drop)]
-struct Rooms<B: ShardNaming, D: BlockDevice, T: Trail>
+pub(crate) struct FourRooms<
+    B: ShardNaming,
+    D: BlockDevice,
+    T: Trail,
+    const I: u64,
+    const J: u64,
+    const K: u64,
+    const L: u64,
+>
 where
-    Shard<B, 0>: Naming,
-    Shard<B, 1>: Naming,
-    Shard<B, 2>: Naming,
-    Shard<B, 3>: Naming,
-    Shard<B, 4>: Naming,
-    Shard<B, 5>: Naming,
-    Shard<B, 6>: Naming,
-    Shard<B, 7>: Naming,
-    Shard<B, 8>: Naming,
-    Shard<B, 9>: Naming,
-    Shard<B, 10>: Naming,
-    Shard<B, 11>: Naming,
-    Shard<B, 12>: Naming,
-    Shard<B, 13>: Naming,
-    Shard<B, 14>: Naming,
-    Shard<B, 15>: Naming,
+    Shard<B, I>: Naming,
+    Shard<B, J>: Naming,
+    Shard<B, K>: Naming,
+    Shard<B, L>: Naming,
 {
-    workers: Vec<Worker>,
-    desk: Vec<Seat>,
-    room_0: Vec<SharedCache<Shard<B, 0>, D, T>>,
-    room_1: Vec<SharedCache<Shard<B, 1>, D, T>>,
-    room_2: Vec<SharedCache<Shard<B, 2>, D, T>>,
-    room_3: Vec<SharedCache<Shard<B, 3>, D, T>>,
-    room_4: Vec<SharedCache<Shard<B, 4>, D, T>>,
-    room_5: Vec<SharedCache<Shard<B, 5>, D, T>>,
-    room_6: Vec<SharedCache<Shard<B, 6>, D, T>>,
-    room_7: Vec<SharedCache<Shard<B, 7>, D, T>>,
-    room_8: Vec<SharedCache<Shard<B, 8>, D, T>>,
-    room_9: Vec<SharedCache<Shard<B, 9>, D, T>>,
-    room_10: Vec<SharedCache<Shard<B, 10>, D, T>>,
-    room_11: Vec<SharedCache<Shard<B, 11>, D, T>>,
-    room_12: Vec<SharedCache<Shard<B, 12>, D, T>>,
-    room_13: Vec<SharedCache<Shard<B, 13>, D, T>>,
-    room_14: Vec<SharedCache<Shard<B, 14>, D, T>>,
-    room_15: Vec<SharedCache<Shard<B, 15>, D, T>>,
+    room_0: Vec<SharedCache<Shard<B, I>, D, T>>,
+    room_1: Vec<SharedCache<Shard<B, J>, D, T>>,
+    room_2: Vec<SharedCache<Shard<B, K>, D, T>>,
+    room_3: Vec<SharedCache<Shard<B, L>, D, T>>,
 }
 
-impl<B: ShardNaming, D: BlockDevice, T: Trail + Drop> Rooms<B, D, T> {
-    fn new(alloc: Global, shards: u64) -> Result<Rooms<B, D, T>, AllocError>
+type SixteenRooms<B, D, T> = (
+    FourRooms<B, D, T, 0, 1, 2, 3>,
+    FourRooms<B, D, T, 4, 5, 6, 7>,
+    FourRooms<B, D, T, 8, 9, 10, 11>,
+    FourRooms<B, D, T, 12, 13, 14, 15>,
+);
+
+/// Room for the caches of so many shards, and for a worker of each.
+#[derive(Drop)]
+struct Rooms<R> {
+    caches: R,
+    workers: Vec<Worker>,
+    desk: Vec<Seat>,
+}
+
+impl<R> Rooms<R> {
+    fn new<C: Made<B, D, T, R>, B: ShardNaming, D: BlockDevice, T: Trail>(
+        alloc: Global,
+        shards: u64,
+    ) -> Result<Rooms<R>, AllocError>
+        ensures caches { IfOk result (λ r. C.fits shards r.caches) }
         ensures workers { IfOk result (λ r. (r.workers.items ≡ []) × (shards ≤ vec_capacity r.workers)) }
         ensures desk { IfOk result (λ r. (r.desk.items ≡ []) × (shards ≤ vec_capacity r.desk)) }
-        ensures room_0 { IfOk result (λ r. (r.room_0.items ≡ []) × (0 < shards → 0 < vec_capacity r.room_0)) }
-        ensures room_1 { IfOk result (λ r. (r.room_1.items ≡ []) × (1 < shards → 0 < vec_capacity r.room_1)) }
-        ensures room_2 { IfOk result (λ r. (r.room_2.items ≡ []) × (2 < shards → 0 < vec_capacity r.room_2)) }
-        ensures room_3 { IfOk result (λ r. (r.room_3.items ≡ []) × (3 < shards → 0 < vec_capacity r.room_3)) }
-        ensures room_4 { IfOk result (λ r. (r.room_4.items ≡ []) × (4 < shards → 0 < vec_capacity r.room_4)) }
-        ensures room_5 { IfOk result (λ r. (r.room_5.items ≡ []) × (5 < shards → 0 < vec_capacity r.room_5)) }
-        ensures room_6 { IfOk result (λ r. (r.room_6.items ≡ []) × (6 < shards → 0 < vec_capacity r.room_6)) }
-        ensures room_7 { IfOk result (λ r. (r.room_7.items ≡ []) × (7 < shards → 0 < vec_capacity r.room_7)) }
-        ensures room_8 { IfOk result (λ r. (r.room_8.items ≡ []) × (8 < shards → 0 < vec_capacity r.room_8)) }
-        ensures room_9 { IfOk result (λ r. (r.room_9.items ≡ []) × (9 < shards → 0 < vec_capacity r.room_9)) }
-        ensures room_10 { IfOk result (λ r. (r.room_10.items ≡ []) × (10 < shards → 0 < vec_capacity r.room_10)) }
-        ensures room_11 { IfOk result (λ r. (r.room_11.items ≡ []) × (11 < shards → 0 < vec_capacity r.room_11)) }
-        ensures room_12 { IfOk result (λ r. (r.room_12.items ≡ []) × (12 < shards → 0 < vec_capacity r.room_12)) }
-        ensures room_13 { IfOk result (λ r. (r.room_13.items ≡ []) × (13 < shards → 0 < vec_capacity r.room_13)) }
-        ensures room_14 { IfOk result (λ r. (r.room_14.items ≡ []) × (14 < shards → 0 < vec_capacity r.room_14)) }
-        ensures room_15 { IfOk result (λ r. (r.room_15.items ≡ []) × (15 < shards → 0 < vec_capacity r.room_15)) }
     {
+        let workers = Vec::with_capacity(alloc, shards as usize)?;
+        let desk = Vec::with_capacity(alloc, shards as usize)?;
+        let caches = C::make_room(alloc, shards)?;
         Ok(Rooms {
-            workers: Vec::with_capacity(alloc, shards as usize)?,
-            desk: Vec::with_capacity(alloc, shards as usize)?,
-            room_0: room(alloc, shards)?,
-            room_1: room(alloc, shards)?,
-            room_2: room(alloc, shards)?,
-            room_3: room(alloc, shards)?,
-            room_4: room(alloc, shards)?,
-            room_5: room(alloc, shards)?,
-            room_6: room(alloc, shards)?,
-            room_7: room(alloc, shards)?,
-            room_8: room(alloc, shards)?,
-            room_9: room(alloc, shards)?,
-            room_10: room(alloc, shards)?,
-            room_11: room(alloc, shards)?,
-            room_12: room(alloc, shards)?,
-            room_13: room(alloc, shards)?,
-            room_14: room(alloc, shards)?,
-            room_15: room(alloc, shards)?,
+            caches,
+            workers,
+            desk,
         })
+    }
+}
+
+/// What names the caches of these shards.
+pub(crate) trait Named<B: ShardNaming>: Span {
+    fn name(&self, shard: u64) -> u64
+        requires whole { Self.whole }
+        requires at { (Self.first ≤ shard) × (shard < Self.end) × (shard < B.shards) }
+        ensures { result ≡ (B.names shard).name };
+}
+
+impl<B: ShardNaming, D: BlockDevice, T: Trail, const K: u64> Named<B> for Place<B, D, T, K> {
+    fn name(&self, _shard: u64) -> u64 {
+        self.cache().name()
+    }
+}
+
+impl<
+    B: ShardNaming,
+    D: BlockDevice,
+    T: Trail,
+    const I: u64,
+    const J: u64,
+    const K: u64,
+    const L: u64,
+> Named<B> for Four<B, D, T, I, J, K, L> {
+    fn name(&self, shard: u64) -> u64 {
+        at_quarter!(self, shard, [J, K, L], name(shard))
+    }
+}
+
+impl<B: ShardNaming, D: BlockDevice, T: Trail> Named<B> for Sixteen<B, D, T> {
+    fn name(&self, shard: u64) -> u64 {
+        at_quarter!(self, shard, [4, 8, 12], name(shard))
+    }
+}
+
+/// Caches of these shards that are made of their parts, in the room R for them.
+pub(crate) trait Made<B: ShardNaming, D: BlockDevice, T: Trail, R>: Span {
+    /// There is room for the caches of so many shards, and nothing in it.
+    ghost fits: { ℕ → R → Type 0 };
+
+    fn make_room(alloc: Global, shards: u64) -> Result<R, AllocError>
+        ensures { IfOk result (fits shards) };
+
+    /// The parts are the last, where there are so many shards. The caches' own workers go before those of the shards that follow.
+    fn of(alloc: Global, room: R, parts: &mut Vec<OneParts<D, T>>, own: &mut Vec<Worker>) -> Self
+        requires whole { Self.whole }
+        requires room { fits B.shards room }
+        requires left { vec_len parts.old ≡ min B.shards Self.end }
+        requires named { (k : ℕ) → k < vec_len parts.old → B.names k ≡ names_at parts.old.items k }
+        requires count { vec_len own.old ≡ B.shards - Self.end }
+        requires spare { B.shards ≤ vec_capacity own.old }
+        requires own { AllFrom (λ k w. IsWorkerAt (B.names k) w) Self.end own.old.items }
+        requires first { AllFrom (λ k w. IsFirstOf (B.names k) w) Self.end own.old.items }
+        ensures left { vec_len parts.new ≡ min B.shards Self.first }
+        ensures named { (k : ℕ) → k < vec_len parts.new → B.names k ≡ names_at parts.new.items k }
+        ensures count { vec_len own.new ≡ B.shards - Self.first }
+        ensures spare { B.shards ≤ vec_capacity own.new }
+        ensures own { AllFrom (λ k w. IsWorkerAt (B.names k) w) Self.first own.new.items }
+        ensures first { AllFrom (λ k w. IsFirstOf (B.names k) w) Self.first own.new.items };
+}
+
+impl<B: ShardNaming, D: BlockDevice, T: Trail + Drop, const K: u64> Made<
+    B,
+    D,
+    T,
+    Vec<SharedCache<Shard<B, K>, D, T>>,
+> for Place<B, D, T, K> {
+    ghost fits = { λ shards room. IsRoom K shards room };
+
+    fn make_room(
+        alloc: Global,
+        shards: u64,
+    ) -> Result<Vec<SharedCache<Shard<B, K>, D, T>>, AllocError> {
+        if K < shards {
+            Vec::with_capacity(alloc, 1)
+        } else {
+            Ok(Vec::new(alloc))
+        }
+    }
+
+    fn of(
+        alloc: Global,
+        mut room: Vec<SharedCache<Shard<B, K>, D, T>>,
+        parts: &mut Vec<OneParts<D, T>>,
+        own: &mut Vec<Worker>,
+    ) -> Place<B, D, T, K> {
+        if parts.len() as u64 <= K {
+            return Place { caches: room };
+        }
+        let Some(one) = parts.pop() else {
+            unreachable!()
+        };
+        let (cache, worker) = SharedCache::<Shard<B, K>, D, T>::of(alloc, one.into_parts());
+        room.push_reserved(cache);
+        let Ok(()) = own.insert(0, worker) else {
+            unreachable!()
+        };
+        Place { caches: room }
+    }
+}
+
+impl<
+    B: ShardNaming,
+    D: BlockDevice,
+    T: Trail + Drop,
+    const I: u64,
+    const J: u64,
+    const K: u64,
+    const L: u64,
+> Made<B, D, T, FourRooms<B, D, T, I, J, K, L>> for Four<B, D, T, I, J, K, L> {
+    ghost fits = { λ shards room. IsRoom I shards room.room_0 × IsRoom J shards room.room_1 × IsRoom K shards room.room_2 × IsRoom L shards room.room_3 };
+
+    fn make_room(alloc: Global, shards: u64) -> Result<FourRooms<B, D, T, I, J, K, L>, AllocError> {
+        Ok(FourRooms {
+            room_0: Place::<B, D, T, I>::make_room(alloc, shards)?,
+            room_1: Place::<B, D, T, J>::make_room(alloc, shards)?,
+            room_2: Place::<B, D, T, K>::make_room(alloc, shards)?,
+            room_3: Place::<B, D, T, L>::make_room(alloc, shards)?,
+        })
+    }
+
+    // the last first
+    fn of(
+        alloc: Global,
+        room: FourRooms<B, D, T, I, J, K, L>,
+        parts: &mut Vec<OneParts<D, T>>,
+        own: &mut Vec<Worker>,
+    ) -> Four<B, D, T, I, J, K, L> {
+        let part_3 = Place::of(alloc, room.room_3, parts, own);
+        let part_2 = Place::of(alloc, room.room_2, parts, own);
+        let part_1 = Place::of(alloc, room.room_1, parts, own);
+        let part_0 = Place::of(alloc, room.room_0, parts, own);
+        Four {
+            part_0,
+            part_1,
+            part_2,
+            part_3,
+        }
+    }
+}
+
+impl<B: ShardNaming, D: BlockDevice, T: Trail + Drop> Made<B, D, T, SixteenRooms<B, D, T>>
+    for Sixteen<B, D, T> {
+    ghost fits = { λ shards room. ⟦<Four<B, D, T, 0, 1, 2, 3> as Made<B, D, T, FourRooms<B, D, T, 0, 1, 2, 3>>>⟧.fits shards room.0 × ⟦<Four<B, D, T, 4, 5, 6, 7> as Made<B, D, T, FourRooms<B, D, T, 4, 5, 6, 7>>>⟧.fits shards room.1 × ⟦<Four<B, D, T, 8, 9, 10, 11> as Made<B, D, T, FourRooms<B, D, T, 8, 9, 10, 11>>>⟧.fits shards room.2 × ⟦<Four<B, D, T, 12, 13, 14, 15> as Made<B, D, T, FourRooms<B, D, T, 12, 13, 14, 15>>>⟧.fits shards room.3 };
+
+    fn make_room(alloc: Global, shards: u64) -> Result<SixteenRooms<B, D, T>, AllocError> {
+        Ok((
+            Four::<B, D, T, 0, 1, 2, 3>::make_room(alloc, shards)?,
+            Four::<B, D, T, 4, 5, 6, 7>::make_room(alloc, shards)?,
+            Four::<B, D, T, 8, 9, 10, 11>::make_room(alloc, shards)?,
+            Four::<B, D, T, 12, 13, 14, 15>::make_room(alloc, shards)?,
+        ))
+    }
+
+    // the last first
+    fn of(
+        alloc: Global,
+        room: SixteenRooms<B, D, T>,
+        parts: &mut Vec<OneParts<D, T>>,
+        own: &mut Vec<Worker>,
+    ) -> Sixteen<B, D, T> {
+        let (room_0, room_1, room_2, room_3) = room;
+        let part_3 = Four::of(alloc, room_3, parts, own);
+        let part_2 = Four::of(alloc, room_2, parts, own);
+        let part_1 = Four::of(alloc, room_1, parts, own);
+        let part_0 = Four::of(alloc, room_0, parts, own);
+        Sixteen {
+            part_0,
+            part_1,
+            part_2,
+            part_3,
+        }
     }
 }

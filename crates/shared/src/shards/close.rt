@@ -11,7 +11,7 @@ ghost use Rattle.shared.specs.declared.worker.Worker.{Worker};
 
 use crate::shards::cache::ShardedCache;
 use crate::shards::naming::ShardNaming;
-use crate::shards::place::Place;
+use crate::shards::place::{Four, Place, Sixteen, Span};
 use crate::shards::rows::take_last;
 use crate::shards::seat::ShardSeat;
 use crate::shards::worker::ShardWorker;
@@ -46,6 +46,7 @@ impl<B: ShardNaming, D: BlockDevice, T: Trail + Drop> ShardedCache<B, D, T> {
         requires seats { All (AreSeated B.names) seats.items }
         ensures refused { IfErr result (λ e. ((e.0 ≡ Stranger) ⊎ (e.0 ≡ Memory)) × (e.2 ≡ own) × (e.3 ≡ seats)) }
         ensures foreign { IfErr result (λ e. e.0 ≡ Stranger → ((k : ℕ) → k < B.shards → (B.names k).seats ≡ vec_len seats + 1) → All (IsSeated B.shards B.names) seats.items → ⊥) }
+        ensures stranger { (((k : ℕ) → k < B.shards → (B.names k).seats ≡ vec_len seats + 1) → All (IsSeated B.shards B.names) seats.items → ⊥) → IfErr result (λ e. e.0 ≡ Stranger) }
         ensures came { IfOk result (λ _. ((k : ℕ) → k < B.shards → (B.names k).seats ≡ vec_len seats + 1) × All (IsSeated B.shards B.names) seats.items) }
         ensures count { IfOk result (λ r. vec_len r ≡ B.shards) }
         ensures closed { IfOk result (λ r. AllFrom (λ k c. (w : Worker) × (slice_get own k ≡ Some w) × IsClosed (B.names k) w (map (λ s. part s k) seats.items) (T.records c.trail) (T.cache c.trail) c.core.state (D.told c.device)) 0 r.items) }
@@ -75,43 +76,9 @@ impl<B: ShardNaming, D: BlockDevice, T: Trail + Drop> ShardedCache<B, D, T> {
         ensures count { vec_len result ≡ B.shards }
         ensures closed { AllFrom (λ k c. (w : Worker) × (slice_get own k ≡ Some w) × IsClosed (B.names k) w (map (λ s. part s k) seats.items) (T.records c.trail) (T.cache c.trail) c.core.state (D.told c.device)) 0 result.items }
     {
-        let ShardedCache {
-            place_0,
-            place_1,
-            place_2,
-            place_3,
-            place_4,
-            place_5,
-            place_6,
-            place_7,
-            place_8,
-            place_9,
-            place_10,
-            place_11,
-            place_12,
-            place_13,
-            place_14,
-            place_15,
-            ..
-        } = self;
+        let ShardedCache { caches, .. } = self;
         let ShardWorker { mut workers, .. } = own;
-        // the last first
-        place_15.close(rt, &mut workers, &mut seats, &mut ends);
-        place_14.close(rt, &mut workers, &mut seats, &mut ends);
-        place_13.close(rt, &mut workers, &mut seats, &mut ends);
-        place_12.close(rt, &mut workers, &mut seats, &mut ends);
-        place_11.close(rt, &mut workers, &mut seats, &mut ends);
-        place_10.close(rt, &mut workers, &mut seats, &mut ends);
-        place_9.close(rt, &mut workers, &mut seats, &mut ends);
-        place_8.close(rt, &mut workers, &mut seats, &mut ends);
-        place_7.close(rt, &mut workers, &mut seats, &mut ends);
-        place_6.close(rt, &mut workers, &mut seats, &mut ends);
-        place_5.close(rt, &mut workers, &mut seats, &mut ends);
-        place_4.close(rt, &mut workers, &mut seats, &mut ends);
-        place_3.close(rt, &mut workers, &mut seats, &mut ends);
-        place_2.close(rt, &mut workers, &mut seats, &mut ends);
-        place_1.close(rt, &mut workers, &mut seats, &mut ends);
-        place_0.close(rt, &mut workers, &mut seats, &mut ends);
+        caches.close(rt, &mut workers, &mut seats, &mut ends);
         ends.closed
     }
 }
@@ -126,8 +93,10 @@ impl<B: ShardNaming, D: BlockDevice, T: Trail> ShardedCache<B, D, T> {
     }
 }
 
-impl<B: ShardNaming, D: BlockDevice, T: Trail + Drop, const K: u64> Place<B, D, T, K> {
-    /// Ends the cache of shard K, where there are so many shards, with the last seat of each caller. What it leaves goes before the others.
+/// Caches of these shards that come to their ends.
+pub(crate) trait Closes<B: ShardNaming, D: BlockDevice, T: Trail>: Span {
+    /// Ends the caches of these shards, where there are so many, with the last seats of each caller. What they leave goes before what those
+    /// left that follow.
     fn close<R: Wait>(
         self,
         rt: &R,
@@ -135,9 +104,20 @@ impl<B: ShardNaming, D: BlockDevice, T: Trail + Drop, const K: u64> Place<B, D, 
         seats: &mut Vec<ShardSeat>,
         ends: &mut Ends<D, T>,
     )
-        requires ended { (own : List Worker) × (rows : List (List SeatSeen)) × HasAll B.shards B.names own rows × HasEndedFrom (K + 1) B.shards B.names T.records T.cache D.told own rows workers.old.items seats.old.items ends.old }
-        ensures ended { (own : List Worker) (rows : List (List SeatSeen)) → HasAll B.shards B.names own rows → HasEndedFrom (K + 1) B.shards B.names T.records T.cache D.told own rows workers.old.items seats.old.items ends.old → HasEndedFrom K B.shards B.names T.records T.cache D.told own rows workers.new.items seats.new.items ends.new }
-    {
+        requires whole { Self.whole }
+        requires ended { (own : List Worker) × (rows : List (List SeatSeen)) × HasAll B.shards B.names own rows × HasEndedFrom Self.end B.shards B.names T.records T.cache D.told own rows workers.old.items seats.old.items ends.old }
+        ensures ended { (own : List Worker) (rows : List (List SeatSeen)) → HasAll B.shards B.names own rows → HasEndedFrom Self.end B.shards B.names T.records T.cache D.told own rows workers.old.items seats.old.items ends.old → HasEndedFrom Self.first B.shards B.names T.records T.cache D.told own rows workers.new.items seats.new.items ends.new };
+}
+
+impl<B: ShardNaming, D: BlockDevice, T: Trail + Drop, const K: u64> Closes<B, D, T>
+    for Place<B, D, T, K> {
+    fn close<R: Wait>(
+        self,
+        rt: &R,
+        workers: &mut Vec<Worker>,
+        seats: &mut Vec<ShardSeat>,
+        ends: &mut Ends<D, T>,
+    ) {
         let Place { mut caches } = self;
         let Some(cache) = caches.pop() else {
             return;
@@ -163,9 +143,61 @@ impl<B: ShardNaming, D: BlockDevice, T: Trail + Drop, const K: u64> Place<B, D, 
     }
 }
 
+impl<
+    B: ShardNaming,
+    D: BlockDevice,
+    T: Trail + Drop,
+    const I: u64,
+    const J: u64,
+    const K: u64,
+    const L: u64,
+> Closes<B, D, T> for Four<B, D, T, I, J, K, L> {
+    // the last first
+    fn close<R: Wait>(
+        self,
+        rt: &R,
+        workers: &mut Vec<Worker>,
+        seats: &mut Vec<ShardSeat>,
+        ends: &mut Ends<D, T>,
+    ) {
+        let Four {
+            part_0,
+            part_1,
+            part_2,
+            part_3,
+        } = self;
+        part_3.close(rt, workers, seats, ends);
+        part_2.close(rt, workers, seats, ends);
+        part_1.close(rt, workers, seats, ends);
+        part_0.close(rt, workers, seats, ends);
+    }
+}
+
+impl<B: ShardNaming, D: BlockDevice, T: Trail + Drop> Closes<B, D, T> for Sixteen<B, D, T> {
+    // the last first
+    fn close<R: Wait>(
+        self,
+        rt: &R,
+        workers: &mut Vec<Worker>,
+        seats: &mut Vec<ShardSeat>,
+        ends: &mut Ends<D, T>,
+    ) {
+        let Sixteen {
+            part_0,
+            part_1,
+            part_2,
+            part_3,
+        } = self;
+        part_3.close(rt, workers, seats, ends);
+        part_2.close(rt, workers, seats, ends);
+        part_1.close(rt, workers, seats, ends);
+        part_0.close(rt, workers, seats, ends);
+    }
+}
+
 /// What the ends of the shards want: room for their seats, and for what they leave.
 #[derive(Drop)]
-struct Ends<D, T> {
+pub(crate) struct Ends<D, T> {
     columns: Vec<Vec<Seat>>,
     closed: Vec<Closed<D, T>>,
 }

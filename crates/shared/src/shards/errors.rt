@@ -5,45 +5,94 @@ ghost use Rattle.errboard.specs.Views.{told_of};
 ghost use Rattle.pc_types.specs.declared.refusal.Refusal.TheVariants.{BadHandle};
 ghost use Rattle.shared.specs.Polls.{Polled};
 
-use crate::handle::FailedWrite;
+use crate::handle::{FailedWrite, Handle};
 use crate::shards::cache::ShardedCache;
 use crate::shards::handle::ShardHandle;
 use crate::shards::naming::ShardNaming;
-use crate::shards::place::{Place, at_shard};
+use crate::shards::place::{Four, Place, Sixteen, Span, at_quarter};
 use blockdev::BlockDevice;
 use pc_types::{ErrCode, Refusal};
 use trail::Trail;
 
-impl<B: ShardNaming, D: BlockDevice, T: Trail, const K: u64> Place<B, D, T, K> {
-    fn poll_error(&self, handle: &mut ShardHandle) -> Result<Option<ErrCode>, Refusal>
-        requires came { handle.old.handle.cache ≡ (B.names K).name → handle.old.handle.pass.board ≡ (B.names K).board }
-        ensures absent { B.shards ≤ K → (result ≡ Err BadHandle) × (handle.new ≡ handle.old) }
-        ensures foreign { handle.old.handle.cache ≢ (B.names K).name → (result ≡ Err BadHandle) × (handle.new ≡ handle.old) }
-        ensures answers { K < B.shards → handle.old.handle.cache ≡ (B.names K).name → IfErr result (λ _. ⊥) }
-        ensures same { handle.new ≡ record handle.old { handle = record handle.old.handle { pass = handle.new.handle.pass } } }
-        ensures polled { IfOk result (Polled handle.old.handle.pass handle.new.handle.pass) }
-    {
-        match self.cache() {
-            Some(cache) => cache.poll_error(&mut handle.handle),
-            None => Err(Refusal::BadHandle),
-        }
+/// What handles of one of these shards are told.
+pub(crate) trait Errors<B: ShardNaming>: Span {
+    fn poll_error(&self, shard: u64, handle: &mut Handle) -> Result<Option<ErrCode>, Refusal>
+        requires whole { Self.whole }
+        requires at { (Self.first ≤ shard) × (shard < Self.end) × (shard < B.shards) }
+        requires came { handle.old.cache ≡ (B.names shard).name → handle.old.pass.board ≡ (B.names shard).board }
+        ensures foreign { handle.old.cache ≢ (B.names shard).name → (result ≡ Err BadHandle) × (handle.new ≡ handle.old) }
+        ensures answers { handle.old.cache ≡ (B.names shard).name → IfErr result (λ _. ⊥) }
+        ensures same { handle.new ≡ record handle.old { pass = handle.new.pass } }
+        ensures polled { IfOk result (Polled handle.old.pass handle.new.pass) };
+
+    fn tell_error(
+        &self,
+        shard: u64,
+        handle: &mut Handle,
+        failed: &mut FailedWrite,
+    ) -> Result<(), Refusal>
+        requires whole { Self.whole }
+        requires at { (Self.first ≤ shard) × (shard < Self.end) × (shard < B.shards) }
+        requires came { handle.old.cache ≡ (B.names shard).name → handle.old.pass.board ≡ (B.names shard).board }
+        requires failed { failed.old.cache ≡ (B.names shard).name → failed.old.receipt.board ≡ (B.names shard).board }
+        ensures foreign { handle.old.cache ≢ (B.names shard).name → (result ≡ Err BadHandle) × (handle.new ≡ handle.old) }
+        ensures answers { handle.old.cache ≡ (B.names shard).name → result ≡ Ok tt }
+        ensures other { failed.old.cache ≢ (B.names shard).name → handle.new ≡ handle.old }
+        ensures told { handle.old.cache ≡ (B.names shard).name → failed.old.cache ≡ (B.names shard).name → handle.new ≡ record handle.old { pass = record handle.old.pass { known = told_of handle.old.file.0 handle.old.pass.known failed.old.receipt.file failed.old.receipt.recorded } } }
+        ensures knows { handle.old.cache ≡ (B.names shard).name → failed.old.cache ≡ (B.names shard).name → failed.old.receipt.file ≡ handle.old.file.0 → length failed.old.receipt.recorded ≤ length handle.new.pass.known }
+        ensures failed { failed.new ≡ failed.old };
+}
+
+impl<B: ShardNaming, D: BlockDevice, T: Trail, const K: u64> Errors<B> for Place<B, D, T, K> {
+    fn poll_error(&self, _shard: u64, handle: &mut Handle) -> Result<Option<ErrCode>, Refusal> {
+        self.cache().poll_error(handle)
     }
 
-    fn tell_error(&self, handle: &mut ShardHandle, failed: &mut FailedWrite) -> Result<(), Refusal>
-        requires came { handle.old.handle.cache ≡ (B.names K).name → handle.old.handle.pass.board ≡ (B.names K).board }
-        requires failed { failed.old.cache ≡ (B.names K).name → failed.old.receipt.board ≡ (B.names K).board }
-        ensures absent { B.shards ≤ K → (result ≡ Err BadHandle) × (handle.new ≡ handle.old) }
-        ensures foreign { handle.old.handle.cache ≢ (B.names K).name → (result ≡ Err BadHandle) × (handle.new ≡ handle.old) }
-        ensures answers { K < B.shards → handle.old.handle.cache ≡ (B.names K).name → result ≡ Ok tt }
-        ensures other { failed.old.cache ≢ (B.names K).name → handle.new ≡ handle.old }
-        ensures told { K < B.shards → handle.old.handle.cache ≡ (B.names K).name → failed.old.cache ≡ (B.names K).name → handle.new ≡ record handle.old { handle = record handle.old.handle { pass = record handle.old.handle.pass { known = told_of handle.old.handle.file.0 handle.old.handle.pass.known failed.old.receipt.file failed.old.receipt.recorded } } } }
-        ensures knows { K < B.shards → handle.old.handle.cache ≡ (B.names K).name → failed.old.cache ≡ (B.names K).name → failed.old.receipt.file ≡ handle.old.handle.file.0 → length failed.old.receipt.recorded ≤ length handle.new.handle.pass.known }
-        ensures failed { failed.new ≡ failed.old }
-    {
-        match self.cache() {
-            Some(cache) => cache.tell_error(&mut handle.handle, failed),
-            None => Err(Refusal::BadHandle),
-        }
+    fn tell_error(
+        &self,
+        _shard: u64,
+        handle: &mut Handle,
+        failed: &mut FailedWrite,
+    ) -> Result<(), Refusal> {
+        self.cache().tell_error(handle, failed)
+    }
+}
+
+impl<
+    B: ShardNaming,
+    D: BlockDevice,
+    T: Trail,
+    const I: u64,
+    const J: u64,
+    const K: u64,
+    const L: u64,
+> Errors<B> for Four<B, D, T, I, J, K, L> {
+    fn poll_error(&self, shard: u64, handle: &mut Handle) -> Result<Option<ErrCode>, Refusal> {
+        at_quarter!(self, shard, [J, K, L], poll_error(shard, handle))
+    }
+
+    fn tell_error(
+        &self,
+        shard: u64,
+        handle: &mut Handle,
+        failed: &mut FailedWrite,
+    ) -> Result<(), Refusal> {
+        at_quarter!(self, shard, [J, K, L], tell_error(shard, handle, failed))
+    }
+}
+
+impl<B: ShardNaming, D: BlockDevice, T: Trail> Errors<B> for Sixteen<B, D, T> {
+    fn poll_error(&self, shard: u64, handle: &mut Handle) -> Result<Option<ErrCode>, Refusal> {
+        at_quarter!(self, shard, [4, 8, 12], poll_error(shard, handle))
+    }
+
+    fn tell_error(
+        &self,
+        shard: u64,
+        handle: &mut Handle,
+        failed: &mut FailedWrite,
+    ) -> Result<(), Refusal> {
+        at_quarter!(self, shard, [4, 8, 12], tell_error(shard, handle, failed))
     }
 }
 
@@ -57,12 +106,10 @@ impl<B: ShardNaming, D: BlockDevice, T: Trail> ShardedCache<B, D, T> {
         ensures same { handle.new ≡ record handle.old { handle = record handle.old.handle { pass = handle.new.handle.pass } } }
         ensures polled { IfOk result (Polled handle.old.handle.pass handle.new.handle.pass) }
     {
-        at_shard!(
-            self,
-            handle.shard,
-            poll_error(handle),
-            Err(Refusal::BadHandle)
-        )
+        if handle.shard >= self.shards {
+            return Err(Refusal::BadHandle);
+        }
+        self.caches.poll_error(handle.shard, &mut handle.handle)
     }
 
     /// Tells a handle of a failed write, without its code: the next `poll_error` answers that. One of another file or of another
@@ -82,11 +129,10 @@ impl<B: ShardNaming, D: BlockDevice, T: Trail> ShardedCache<B, D, T> {
         ensures knows { handle.old.shard < B.shards → handle.old.handle.cache ≡ (B.names handle.old.shard).name → failed.old.cache ≡ (B.names handle.old.shard).name → failed.old.receipt.file ≡ handle.old.handle.file.0 → length failed.old.receipt.recorded ≤ length handle.new.handle.pass.known }
         ensures failed { failed.new ≡ failed.old }
     {
-        at_shard!(
-            self,
-            handle.shard,
-            tell_error(handle, failed),
-            Err(Refusal::BadHandle)
-        )
+        if handle.shard >= self.shards {
+            return Err(Refusal::BadHandle);
+        }
+        self.caches
+            .tell_error(handle.shard, &mut handle.handle, failed)
     }
 }

@@ -18,7 +18,7 @@ use crate::shards::cache::ShardedCache;
 use crate::shards::denied::CreateDenied;
 use crate::shards::handle::ShardHandle;
 use crate::shards::naming::{Shard, ShardNaming};
-use crate::shards::place::{Place, at_shard};
+use crate::shards::place::{Four, Place, Sixteen, Span, at_quarter};
 use crate::shards::seat::ShardSeat;
 use blockdev::BlockDevice;
 use held::denied::{Denied, without_slip};
@@ -70,83 +70,155 @@ impl<B: ShardNaming, D: BlockDevice, T: Trail, const K: u64> SharedCache<Shard<B
     }
 }
 
-impl<B: ShardNaming, D: BlockDevice, T: Trail, const K: u64> Place<B, D, T, K> {
-    /// Makes a new file in this shard, or answers nothing where there is no such shard.
-    #[tactic(auto, using(crate::proofs::ShardSeated::seated_on))]
-    pub(crate) fn create<R: Wait>(
-        &self,
-        rt: &R,
-        seat: &mut ShardSeat,
-    ) -> Option<Result<(FileId, Slip), Denied>>
-        requires seat { AreSeated B.names seat.old }
-        ensures absent { IfNone result ((B.shards ≤ K) × (seat.new ≡ seat.old)) }
-        ensures there { IfSome result (λ _. K < B.shards) }
-        ensures foreign { is_of (B.names K).name seat.old K ≡ false → IfSome result (λ r. (r ≡ Err (record { refusal = Stranger; slip = None })) × (seat.new ≡ seat.old)) }
-        ensures others { OnlyAt K seat.old seat.new }
-        ensures seated { AreSeated B.names seat.new }
-        ensures call { is_of (B.names K).name seat.old K ≡ true → IfSome result (λ r. Creates (B.names K) r (part seat.old K) (part seat.new K)) }
-    {
-        let Some(cache) = self.cache() else {
-            return None;
-        };
-        let Some(own) = seat.seats.get_mut(K as usize) else {
-            return Some(Err(without_slip(Refusal::Stranger)));
-        };
-        Some(cache.create_in(rt, own))
-    }
+/// Files of one of these shards, and their handles.
+pub(crate) trait Files<B: ShardNaming>: Span {
+    fn create<R: Wait>(&self, rt: &R, shard: u64, own: &mut Seat) -> Result<(FileId, Slip), Denied>
+        requires whole { Self.whole }
+        requires at { (Self.first ≤ shard) × (shard < Self.end) × (shard < B.shards) }
+        requires seat { own.old.name ≡ (B.names shard).name → own.old.table ≡ (B.names shard).table }
+        ensures goes { Goes own.old own.new }
+        ensures foreign { own.old.name ≢ (B.names shard).name → (result ≡ Err (record { refusal = Stranger; slip = None })) × (own.new ≡ own.old) }
+        ensures call { own.old.name ≡ (B.names shard).name → Creates (B.names shard) result own.old own.new };
 
-    /// Opens a file of this shard.
-    #[tactic(auto, using(crate::proofs::ShardSeated::seated_on))]
-    pub(crate) fn open<R: Wait>(
+    fn open<R: Wait>(
         &self,
         rt: &R,
-        seat: &mut ShardSeat,
+        shard: u64,
+        own: &mut Seat,
         file: FileId,
         append: bool,
-    ) -> Result<(ShardHandle, Slip), Denied>
-        requires seat { AreSeated B.names seat.old }
-        ensures absent { B.shards ≤ K → (result ≡ Err (record { refusal = NoSuchFile; slip = None })) × (seat.new ≡ seat.old) }
-        ensures foreign { K < B.shards → is_of (B.names K).name seat.old K ≡ false → (result ≡ Err (record { refusal = Stranger; slip = None })) × (seat.new ≡ seat.old) }
-        ensures others { OnlyAt K seat.old seat.new }
-        ensures seated { AreSeated B.names seat.new }
-        ensures at { IfOk result (λ r. r.0.shard ≡ K) }
-        ensures board { IfOk result (λ r. r.0.handle.pass.board ≡ (B.names K).board) }
-        ensures call { K < B.shards → is_of (B.names K).name seat.old K ≡ true → Opens (B.names K) file append (opened_in result) (part seat.old K) (part seat.new K) }
-    {
-        let Some(cache) = self.cache() else {
-            return Err(without_slip(Refusal::NoSuchFile));
-        };
-        let Some(own) = seat.seats.get_mut(K as usize) else {
-            return Err(without_slip(Refusal::Stranger));
-        };
-        in_shard(K, cache.open_in(rt, own, file, append))
-    }
+    ) -> Result<(Handle, Slip), Denied>
+        requires whole { Self.whole }
+        requires at { (Self.first ≤ shard) × (shard < Self.end) × (shard < B.shards) }
+        requires seat { own.old.name ≡ (B.names shard).name → own.old.table ≡ (B.names shard).table }
+        ensures goes { Goes own.old own.new }
+        ensures foreign { own.old.name ≢ (B.names shard).name → (result ≡ Err (record { refusal = Stranger; slip = None })) × (own.new ≡ own.old) }
+        ensures board { IfOk result (λ r. r.0.pass.board ≡ (B.names shard).board) }
+        ensures call { own.old.name ≡ (B.names shard).name → Opens (B.names shard) file append result own.old own.new };
 
-    /// Closes a handle of this shard.
-    #[tactic(auto, using(crate::proofs::ShardSeated::seated_on, crate::proofs::ShardBack::comes_back))]
-    pub(crate) fn close_handle<R: Wait>(
+    fn close_handle<R: Wait>(
         &self,
         rt: &R,
-        seat: &mut ShardSeat,
-        handle: ShardHandle,
-    ) -> Result<Slip, (Denied, ShardHandle)>
-        requires seat { AreSeated B.names seat.old }
-        requires came { handle.handle.cache ≡ (B.names K).name → handle.handle.pass.board ≡ (B.names K).board }
-        ensures absent { B.shards ≤ K → (result ≡ Err (record { refusal = BadHandle; slip = None }, handle)) × (seat.new ≡ seat.old) }
-        ensures foreign { K < B.shards → is_of (B.names K).name seat.old K ≡ false → (result ≡ Err (record { refusal = Stranger; slip = None }, handle)) × (seat.new ≡ seat.old) }
-        ensures others { OnlyAt K seat.old seat.new }
-        ensures seated { AreSeated B.names seat.new }
-        ensures call { K < B.shards → is_of (B.names K).name seat.old K ≡ true → Closes (B.names K) handle.handle (closed_in result) (part seat.old K) (part seat.new K) }
-        ensures back { IfErr result (λ d. d.1 ≡ handle) }
-    {
-        let Some(cache) = self.cache() else {
-            return Err((without_slip(Refusal::BadHandle), handle));
-        };
-        let Some(own) = seat.seats.get_mut(K as usize) else {
-            return Err((without_slip(Refusal::Stranger), handle));
-        };
-        let ShardHandle { shard, handle } = handle;
-        back_in_shard(shard, cache.close_handle_in(rt, own, handle))
+        shard: u64,
+        own: &mut Seat,
+        handle: Handle,
+    ) -> Result<Slip, (Denied, Handle)>
+        requires whole { Self.whole }
+        requires at { (Self.first ≤ shard) × (shard < Self.end) × (shard < B.shards) }
+        requires seat { own.old.name ≡ (B.names shard).name → own.old.table ≡ (B.names shard).table }
+        requires came { handle.cache ≡ (B.names shard).name → handle.pass.board ≡ (B.names shard).board }
+        ensures goes { Goes own.old own.new }
+        ensures foreign { own.old.name ≢ (B.names shard).name → (result ≡ Err (record { refusal = Stranger; slip = None }, handle)) × (own.new ≡ own.old) }
+        ensures call { own.old.name ≡ (B.names shard).name → Closes (B.names shard) handle result own.old own.new }
+        ensures back { IfErr result (λ d. d.1 ≡ handle) };
+}
+
+impl<B: ShardNaming, D: BlockDevice, T: Trail, const K: u64> Files<B> for Place<B, D, T, K> {
+    fn create<R: Wait>(
+        &self,
+        rt: &R,
+        _shard: u64,
+        own: &mut Seat,
+    ) -> Result<(FileId, Slip), Denied> {
+        self.cache().create_in(rt, own)
+    }
+
+    fn open<R: Wait>(
+        &self,
+        rt: &R,
+        _shard: u64,
+        own: &mut Seat,
+        file: FileId,
+        append: bool,
+    ) -> Result<(Handle, Slip), Denied> {
+        self.cache().open_in(rt, own, file, append)
+    }
+
+    fn close_handle<R: Wait>(
+        &self,
+        rt: &R,
+        _shard: u64,
+        own: &mut Seat,
+        handle: Handle,
+    ) -> Result<Slip, (Denied, Handle)> {
+        self.cache().close_handle_in(rt, own, handle)
+    }
+}
+
+impl<
+    B: ShardNaming,
+    D: BlockDevice,
+    T: Trail,
+    const I: u64,
+    const J: u64,
+    const K: u64,
+    const L: u64,
+> Files<B> for Four<B, D, T, I, J, K, L> {
+    fn create<R: Wait>(
+        &self,
+        rt: &R,
+        shard: u64,
+        own: &mut Seat,
+    ) -> Result<(FileId, Slip), Denied> {
+        at_quarter!(self, shard, [J, K, L], create(rt, shard, own))
+    }
+
+    fn open<R: Wait>(
+        &self,
+        rt: &R,
+        shard: u64,
+        own: &mut Seat,
+        file: FileId,
+        append: bool,
+    ) -> Result<(Handle, Slip), Denied> {
+        at_quarter!(self, shard, [J, K, L], open(rt, shard, own, file, append))
+    }
+
+    fn close_handle<R: Wait>(
+        &self,
+        rt: &R,
+        shard: u64,
+        own: &mut Seat,
+        handle: Handle,
+    ) -> Result<Slip, (Denied, Handle)> {
+        at_quarter!(self, shard, [J, K, L], close_handle(rt, shard, own, handle))
+    }
+}
+
+impl<B: ShardNaming, D: BlockDevice, T: Trail> Files<B> for Sixteen<B, D, T> {
+    fn create<R: Wait>(
+        &self,
+        rt: &R,
+        shard: u64,
+        own: &mut Seat,
+    ) -> Result<(FileId, Slip), Denied> {
+        at_quarter!(self, shard, [4, 8, 12], create(rt, shard, own))
+    }
+
+    fn open<R: Wait>(
+        &self,
+        rt: &R,
+        shard: u64,
+        own: &mut Seat,
+        file: FileId,
+        append: bool,
+    ) -> Result<(Handle, Slip), Denied> {
+        at_quarter!(self, shard, [4, 8, 12], open(rt, shard, own, file, append))
+    }
+
+    fn close_handle<R: Wait>(
+        &self,
+        rt: &R,
+        shard: u64,
+        own: &mut Seat,
+        handle: Handle,
+    ) -> Result<Slip, (Denied, Handle)> {
+        at_quarter!(
+            self,
+            shard,
+            [4, 8, 12],
+            close_handle(rt, shard, own, handle)
+        )
     }
 }
 
@@ -172,6 +244,7 @@ impl<B: ShardNaming, D: BlockDevice, T: Trail> ShardedCache<B, D, T> {
     }
 
     /// Makes a new file in a shard, or answers nothing where there is no such shard.
+    #[tactic(auto, using(crate::proofs::ShardSeated::seated_on))]
     fn create_at<R: Wait>(
         &self,
         rt: &R,
@@ -186,7 +259,13 @@ impl<B: ShardNaming, D: BlockDevice, T: Trail> ShardedCache<B, D, T> {
         ensures seated { AreSeated B.names seat.new }
         ensures call { is_of (B.names shard).name seat.old shard ≡ true → IfSome result (λ r. Creates (B.names shard) r (part seat.old shard) (part seat.new shard)) }
     {
-        at_shard!(self, shard, create(rt, seat), None)
+        if shard >= self.shards {
+            return None;
+        }
+        let Some(own) = seat.seats.get_mut(shard as usize) else {
+            return Some(Err(without_slip(Refusal::Stranger)));
+        };
+        Some(self.caches.create(rt, shard, own))
     }
 
     /// The answer of a shard, with the file's number among those of all shards.
@@ -233,6 +312,7 @@ impl<B: ShardNaming, D: BlockDevice, T: Trail> ShardedCache<B, D, T> {
     }
 
     /// Opens a shard's own file.
+    #[tactic(auto, using(crate::proofs::ShardSeated::seated_on))]
     fn open_at<R: Wait>(
         &self,
         rt: &R,
@@ -250,15 +330,17 @@ impl<B: ShardNaming, D: BlockDevice, T: Trail> ShardedCache<B, D, T> {
         ensures board { IfOk result (λ r. r.0.handle.pass.board ≡ (B.names r.0.shard).board) }
         ensures call { shard < B.shards → is_of (B.names shard).name seat.old shard ≡ true → Opens (B.names shard) file append (opened_in result) (part seat.old shard) (part seat.new shard) }
     {
-        at_shard!(
-            self,
-            shard,
-            open(rt, seat, file, append),
-            Err(without_slip(Refusal::NoSuchFile))
-        )
+        if shard >= self.shards {
+            return Err(without_slip(Refusal::NoSuchFile));
+        }
+        let Some(own) = seat.seats.get_mut(shard as usize) else {
+            return Err(without_slip(Refusal::Stranger));
+        };
+        in_shard(shard, self.caches.open(rt, shard, own, file, append))
     }
 
     /// Closes a handle. It comes back where that is refused, as by `Busy` while a sync by it is in progress.
+    #[tactic(auto, using(crate::proofs::ShardSeated::seated_on, crate::proofs::ShardBack::comes_back))]
     pub fn close_handle<R: Wait>(
         &self,
         rt: &R,
@@ -274,13 +356,20 @@ impl<B: ShardNaming, D: BlockDevice, T: Trail> ShardedCache<B, D, T> {
         ensures call { handle.shard < B.shards → is_of (B.names handle.shard).name seat.old handle.shard ≡ true → Closes (B.names handle.shard) handle.handle (closed_in result) (part seat.old handle.shard) (part seat.new handle.shard) }
         ensures back { IfErr result (λ d. d.1 ≡ handle) }
     {
-        let shard = handle.shard;
-        at_shard!(
-            self,
-            shard,
-            close_handle(rt, seat, handle),
-            Err((without_slip(Refusal::BadHandle), handle))
-        )
+        let ShardHandle { shard, handle } = handle;
+        if shard >= self.shards {
+            return Err((
+                without_slip(Refusal::BadHandle),
+                ShardHandle { shard, handle },
+            ));
+        }
+        let Some(own) = seat.seats.get_mut(shard as usize) else {
+            return Err((
+                without_slip(Refusal::Stranger),
+                ShardHandle { shard, handle },
+            ));
+        };
+        back_in_shard(shard, self.caches.close_handle(rt, shard, own, handle))
     }
 }
 

@@ -50,4 +50,6 @@ impl<B: ShardNaming, const K: u64> Naming for Shard<B, K> {
     ghost whole = { (B.names K).whole };
 
     ghost blocks = { (B.names K).blocks };
+
+    ghost calls = { (B.names K).calls };
 }

@@ -1,18 +1,18 @@
 //! Seats of callers, made shard by shard.
 
 ghost use Rattle.std.specs.Prelude.{◌≡◌, ◌+◌, ◌≤◌, ◌++◌, ◌∷◌, [], length, map, option_to_list, take, vec_capacity, All, IfNone, IfOk, OnOk, List, if◌then◌else◌, is_ok, vec_len};
+ghost use Rattle.held.specs.Shown.{AreFresh};
 ghost use Rattle.shared.specs.ShardNames.{CacheNames};
-ghost use Rattle.shared.specs.ShardSeats.{AreOf, IsOfCache, part};
+ghost use Rattle.shared.specs.ShardSeats.{AreCallers, part};
 
 use crate::shards::seat::ShardSeat;
 use held::log::Seat;
 use std::alloc::{AllocError, Global};
 
 /// So many callers, without a seat at any shard.
-#[tactic(auto, using(crate::proofs::ShardRowing::seated_nowhere))]
 pub(crate) fn without_shards(alloc: Global, count: u64) -> Result<Vec<ShardSeat>, AllocError>
     ensures len { IfOk result (λ rows. vec_len rows ≡ count) }
-    ensures empty { IfOk result (λ rows. All (AreOf []) rows.items) }
+    ensures empty { IfOk result (λ rows. All (λ row. row ≡ []) rows.items) }
 {
     let mut rows = Vec::new(alloc);
     for _ in 0..count {
@@ -23,16 +23,16 @@ pub(crate) fn without_shards(alloc: Global, count: u64) -> Result<Vec<ShardSeat>
     Ok(rows)
 }
 
-/// Gives each caller a seat at one more shard.
+/// Gives each caller the seat of its number at one more shard.
 pub(crate) fn seat_all(rows: &mut Vec<ShardSeat>, mut seats: Vec<Seat>) -> Result<(), AllocError>
     requires { vec_len seats ≡ vec_len rows.old }
     ensures len { vec_len rows.new ≡ vec_len rows.old }
-    ensures seated { (names : List CacheNames) (n : CacheNames) → All (AreOf names) rows.old.items → All (IsOfCache n) seats.items → OnOk result (All (AreOf (names ++ n ∷ [])) rows.new.items) }
+    ensures seated { (names : List CacheNames) (n : CacheNames) → AreCallers names rows.old.items → AreFresh n.table n.name seats.items → OnOk result (AreCallers (names ++ n ∷ []) rows.new.items) }
 {
-    for row in 0..rows.len() {
-        let Some(seat) = seats.pop() else {
-            unreachable!()
-        };
+    // the last caller first, since the last seat goes first
+    let mut row = rows.len();
+    while let Some(seat) = seats.pop() {
+        row -= 1;
         rows[row].add(seat)?;
     }
     Ok(())

@@ -3,7 +3,8 @@
 ghost use Rattle.std.specs.Prelude.{◌≡◌, ◌≢◌, ◌<◌, ℕ, All, Err, length};
 ghost use Rattle.held.specs.Shown.{SeatSeen};
 ghost use Rattle.pc_types.specs.declared.refusal.Refusal.TheVariants.{Stranger};
-ghost use Rattle.shared.specs.ShardSeats.{OnlyAt, Sees, is_of, part};
+ghost use Rattle.shared.specs.ShardNames.{CacheNames};
+ghost use Rattle.shared.specs.ShardSeats.{AreSeated, OnlyAt, Sees, SeesMore, is_of, part};
 
 use held::log::{Seat, Slip};
 use pc_types::Refusal;
@@ -40,6 +41,8 @@ impl ShardSeat {
     pub fn see(&mut self, slip: &Slip) -> Result<(), Refusal>
         ensures none { All (λ s. s.name ≢ slip.now.name) self.old → (result ≡ Err Stranger) × (self.new ≡ self.old) }
         ensures one { (k : ℕ) → k < length self.old → (part self.old k).name ≡ slip.now.name → ((j : ℕ) → j < k → (part self.old j).name ≢ slip.now.name) → OnlyAt k self.old self.new × Sees slip.now (part self.old k) (part self.new k) result }
+        ensures same { (length self.new ≡ length self.old) × ((k : ℕ) → k < length self.old → SeesMore (part self.old k) (part self.new k)) }
+        ensures seated { (names : ℕ → CacheNames) → AreSeated names self.old → AreSeated names self.new }
     {
         match self.seats.iter().position(|seat| seat.name() == slip.name) {
             Some(shard) => self.seats[shard].see(slip),

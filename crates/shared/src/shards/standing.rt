@@ -10,7 +10,7 @@ ghost use Rattle.shared.specs.ShardSeats.{AreSeated, OnlyAt, is_of, part};
 use crate::cache::SharedCache;
 use crate::shards::cache::ShardedCache;
 use crate::shards::naming::{Shard, ShardNaming};
-use crate::shards::place::{Place, at_shard};
+use crate::shards::place::{Four, Place, Sixteen, Span, at_quarter};
 use crate::shards::seat::ShardSeat;
 use blockdev::BlockDevice;
 use cachecore::Placed;
@@ -46,47 +46,93 @@ impl<B: ShardNaming, D: BlockDevice, T: Trail, const K: u64> SharedCache<Shard<B
     }
 }
 
-impl<B: ShardNaming, D: BlockDevice, T: Trail, const K: u64> Place<B, D, T, K> {
-    #[tactic(auto, using(crate::proofs::ShardSeated::seated_on))]
-    pub(crate) fn block_of<R: Wait>(
+/// Where files of one of these shards stand.
+pub(crate) trait Stands<B: ShardNaming>: Span {
+    fn block_of<R: Wait>(
         &self,
         rt: &R,
-        seat: &mut ShardSeat,
+        shard: u64,
+        own: &mut Seat,
         file: FileId,
         page: PageIndex,
     ) -> Result<Option<Placed>, Refusal>
-        requires seat { AreSeated B.names seat.old }
-        ensures absent { B.shards ≤ K → (result ≡ Err NoSuchFile) × (seat.new ≡ seat.old) }
-        ensures foreign { K < B.shards → is_of (B.names K).name seat.old K ≡ false → (result ≡ Err Stranger) × (seat.new ≡ seat.old) }
-        ensures others { OnlyAt K seat.old seat.new }
-        ensures seated { AreSeated B.names seat.new }
-        ensures call { K < B.shards → is_of (B.names K).name seat.old K ≡ true → Places (B.names K) (λ s. SpotIs s file.0 page.0 result) (part seat.old K) (part seat.new K) }
-    {
-        let Some(cache) = self.cache() else {
-            return Err(Refusal::NoSuchFile);
-        };
-        let Some(own) = seat.seats.get_mut(K as usize) else {
-            return Err(Refusal::Stranger);
-        };
-        cache.block_of_in(rt, own, file, page)
+        requires whole { Self.whole }
+        requires at { (Self.first ≤ shard) × (shard < Self.end) × (shard < B.shards) }
+        requires seat { own.old.name ≡ (B.names shard).name → own.old.table ≡ (B.names shard).table }
+        ensures goes { Goes own.old own.new }
+        ensures foreign { own.old.name ≢ (B.names shard).name → (result ≡ Err Stranger) × (own.new ≡ own.old) }
+        ensures call { own.old.name ≡ (B.names shard).name → Places (B.names shard) (λ s. SpotIs s file.0 page.0 result) own.old own.new };
+
+    fn catalog<R: Wait>(&self, rt: &R, shard: u64, own: &mut Seat) -> Result<Catalog, Refusal>
+        requires whole { Self.whole }
+        requires at { (Self.first ≤ shard) × (shard < Self.end) × (shard < B.shards) }
+        requires seat { own.old.name ≡ (B.names shard).name → own.old.table ≡ (B.names shard).table }
+        ensures goes { Goes own.old own.new }
+        ensures foreign { own.old.name ≢ (B.names shard).name → (result ≡ Err Stranger) × (own.new ≡ own.old) }
+        ensures call { own.old.name ≡ (B.names shard).name → Lists (B.names shard) result own.old own.new };
+}
+
+impl<B: ShardNaming, D: BlockDevice, T: Trail, const K: u64> Stands<B> for Place<B, D, T, K> {
+    fn block_of<R: Wait>(
+        &self,
+        rt: &R,
+        _shard: u64,
+        own: &mut Seat,
+        file: FileId,
+        page: PageIndex,
+    ) -> Result<Option<Placed>, Refusal> {
+        self.cache().block_of_in(rt, own, file, page)
     }
 
-    #[tactic(auto, using(crate::proofs::ShardSeated::seated_on))]
-    pub(crate) fn catalog<R: Wait>(&self, rt: &R, seat: &mut ShardSeat) -> Result<Catalog, Refusal>
-        requires seat { AreSeated B.names seat.old }
-        ensures absent { B.shards ≤ K → (result ≡ Err Stranger) × (seat.new ≡ seat.old) }
-        ensures foreign { K < B.shards → is_of (B.names K).name seat.old K ≡ false → (result ≡ Err Stranger) × (seat.new ≡ seat.old) }
-        ensures others { OnlyAt K seat.old seat.new }
-        ensures seated { AreSeated B.names seat.new }
-        ensures call { K < B.shards → is_of (B.names K).name seat.old K ≡ true → Lists (B.names K) result (part seat.old K) (part seat.new K) }
-    {
-        let Some(cache) = self.cache() else {
-            return Err(Refusal::Stranger);
-        };
-        let Some(own) = seat.seats.get_mut(K as usize) else {
-            return Err(Refusal::Stranger);
-        };
-        cache.catalog_in(rt, own)
+    fn catalog<R: Wait>(&self, rt: &R, _shard: u64, own: &mut Seat) -> Result<Catalog, Refusal> {
+        self.cache().catalog_in(rt, own)
+    }
+}
+
+impl<
+    B: ShardNaming,
+    D: BlockDevice,
+    T: Trail,
+    const I: u64,
+    const J: u64,
+    const K: u64,
+    const L: u64,
+> Stands<B> for Four<B, D, T, I, J, K, L> {
+    fn block_of<R: Wait>(
+        &self,
+        rt: &R,
+        shard: u64,
+        own: &mut Seat,
+        file: FileId,
+        page: PageIndex,
+    ) -> Result<Option<Placed>, Refusal> {
+        at_quarter!(self, shard, [J, K, L], block_of(rt, shard, own, file, page))
+    }
+
+    fn catalog<R: Wait>(&self, rt: &R, shard: u64, own: &mut Seat) -> Result<Catalog, Refusal> {
+        at_quarter!(self, shard, [J, K, L], catalog(rt, shard, own))
+    }
+}
+
+impl<B: ShardNaming, D: BlockDevice, T: Trail> Stands<B> for Sixteen<B, D, T> {
+    fn block_of<R: Wait>(
+        &self,
+        rt: &R,
+        shard: u64,
+        own: &mut Seat,
+        file: FileId,
+        page: PageIndex,
+    ) -> Result<Option<Placed>, Refusal> {
+        at_quarter!(
+            self,
+            shard,
+            [4, 8, 12],
+            block_of(rt, shard, own, file, page)
+        )
+    }
+
+    fn catalog<R: Wait>(&self, rt: &R, shard: u64, own: &mut Seat) -> Result<Catalog, Refusal> {
+        at_quarter!(self, shard, [4, 8, 12], catalog(rt, shard, own))
     }
 }
 
@@ -112,6 +158,7 @@ impl<B: ShardNaming, D: BlockDevice, T: Trail> ShardedCache<B, D, T> {
     }
 
     /// Where a page of a shard's own file stands.
+    #[tactic(auto, using(crate::proofs::ShardSeated::seated_on))]
     fn block_at<R: Wait>(
         &self,
         rt: &R,
@@ -126,16 +173,18 @@ impl<B: ShardNaming, D: BlockDevice, T: Trail> ShardedCache<B, D, T> {
         ensures seated { AreSeated B.names seat.new }
         ensures call { shard < B.shards → is_of (B.names shard).name seat.old shard ≡ true → Places (B.names shard) (λ s. SpotIs s file.0 page.0 result) (part seat.old shard) (part seat.new shard) }
     {
-        at_shard!(
-            self,
-            shard,
-            block_of(rt, seat, file, page),
-            Err(Refusal::NoSuchFile)
-        )
+        if shard >= self.shards {
+            return Err(Refusal::NoSuchFile);
+        }
+        let Some(own) = seat.seats.get_mut(shard as usize) else {
+            return Err(Refusal::Stranger);
+        };
+        self.caches.block_of(rt, shard, own, file, page)
     }
 
     /// The files of a shard as they stand on its device, by the shard's own numbers: file F there is file F * n + shard here. `Stranger`
     /// where there is no such shard, or the seat is of another cache; else as the shard's cache tells it.
+    #[tactic(auto, using(crate::proofs::ShardSeated::seated_on))]
     pub fn catalog<R: Wait>(
         &self,
         rt: &R,
@@ -149,6 +198,12 @@ impl<B: ShardNaming, D: BlockDevice, T: Trail> ShardedCache<B, D, T> {
         ensures seated { AreSeated B.names seat.new }
         ensures call { shard < B.shards → is_of (B.names shard).name seat.old shard ≡ true → Lists (B.names shard) result (part seat.old shard) (part seat.new shard) }
     {
-        at_shard!(self, shard, catalog(rt, seat), Err(Refusal::Stranger))
+        if shard >= self.shards {
+            return Err(Refusal::Stranger);
+        }
+        let Some(own) = seat.seats.get_mut(shard as usize) else {
+            return Err(Refusal::Stranger);
+        };
+        self.caches.catalog(rt, shard, own)
     }
 }

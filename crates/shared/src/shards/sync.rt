@@ -13,7 +13,7 @@ use crate::handle::Handle;
 use crate::shards::cache::ShardedCache;
 use crate::shards::handle::ShardHandle;
 use crate::shards::naming::{Shard, ShardNaming};
-use crate::shards::place::{Place, at_shard};
+use crate::shards::place::{Four, Place, Sixteen, Span, at_quarter};
 use crate::shards::seat::ShardSeat;
 use blockdev::BlockDevice;
 use held::denied::{Denied, without_slip};
@@ -32,15 +32,19 @@ pub struct ShardDurable<B: ShardNaming, D: BlockDevice> {
 }
 
 impl<B: ShardNaming, D: BlockDevice> Model for ShardDurable<B, D> {
+    ghost use Rattle.std.specs.Prelude.{◌≡◌, ◌<◌, ℕ};
     ghost use Rattle.held.specs.declared.log.Slip.{Slip};
 
     ghost Value = { Slip };
 
     ghost view = { λ d. d.slip };
+
+    ghost invariant = { λ d. (k : ℕ) × (k < B.shards) × (d.slip.name ≡ (B.names k).name) };
 }
 
 impl<B: ShardNaming, D: BlockDevice> ShardDurable<B, D> {
     fn of<const K: u64>(durable: Durable<Shard<B, K>, D>) -> ShardDurable<B, D>
+        requires { K < B.shards }
         ensures { result ≡ durable }
     {
         ShardDurable {
@@ -66,6 +70,7 @@ impl<B: ShardNaming, D: BlockDevice, T: Trail, const K: u64> SharedCache<Shard<B
         first: PageIndex,
         last: PageIndex,
     ) -> Result<ShardDurable<B, D>, Denied>
+        requires there { K < B.shards }
         requires seat { own.old.name ≡ (B.names K).name → own.old.table ≡ (B.names K).table }
         requires came { handle.old.cache ≡ (B.names K).name → handle.old.pass.board ≡ (B.names K).board }
         ensures goes { Goes own.old own.new }
@@ -80,32 +85,84 @@ impl<B: ShardNaming, D: BlockDevice, T: Trail, const K: u64> SharedCache<Shard<B
     }
 }
 
-impl<B: ShardNaming, D: BlockDevice, T: Trail, const K: u64> Place<B, D, T, K> {
-    #[tactic(auto, using(crate::proofs::ShardSeated::seated_on))]
-    pub(crate) fn fsync_range<R: Wait>(
+/// Fsyncs of files of one of these shards.
+pub(crate) trait Syncs<B: ShardNaming, D: BlockDevice>: Span {
+    fn fsync_range<R: Wait>(
         &self,
         rt: &R,
-        seat: &mut ShardSeat,
-        handle: &mut ShardHandle,
+        shard: u64,
+        own: &mut Seat,
+        handle: &mut Handle,
         first: PageIndex,
         last: PageIndex,
     ) -> Result<ShardDurable<B, D>, Denied>
-        requires seat { AreSeated B.names seat.old }
-        requires came { handle.old.handle.cache ≡ (B.names K).name → handle.old.handle.pass.board ≡ (B.names K).board }
-        ensures absent { B.shards ≤ K → (result ≡ Err (record { refusal = BadHandle; slip = None })) × (seat.new ≡ seat.old) × (handle.new ≡ handle.old) }
-        ensures foreign { K < B.shards → is_of (B.names K).name seat.old K ≡ false → (result ≡ Err (record { refusal = Stranger; slip = None })) × (seat.new ≡ seat.old) × (handle.new ≡ handle.old) }
-        ensures others { OnlyAt K seat.old seat.new }
-        ensures seated { AreSeated B.names seat.new }
-        ensures same { (handle.new.shard ≡ handle.old.shard) × (handle.new.handle ≡ record handle.old.handle { pass = handle.new.handle.pass }) × (handle.new.handle.pass.board ≡ handle.old.handle.pass.board) }
-        ensures call { K < B.shards → is_of (B.names K).name seat.old K ≡ true → Fsyncs (B.names K) first last handle.old.handle handle.new.handle result (part seat.old K) (part seat.new K) }
-    {
-        let Some(cache) = self.cache() else {
-            return Err(without_slip(Refusal::BadHandle));
-        };
-        let Some(own) = seat.seats.get_mut(K as usize) else {
-            return Err(without_slip(Refusal::Stranger));
-        };
-        cache.fsync_range_in(rt, own, &mut handle.handle, first, last)
+        requires whole { Self.whole }
+        requires at { (Self.first ≤ shard) × (shard < Self.end) × (shard < B.shards) }
+        requires seat { own.old.name ≡ (B.names shard).name → own.old.table ≡ (B.names shard).table }
+        requires came { handle.old.cache ≡ (B.names shard).name → handle.old.pass.board ≡ (B.names shard).board }
+        ensures goes { Goes own.old own.new }
+        ensures foreign { own.old.name ≢ (B.names shard).name → (result ≡ Err (record { refusal = Stranger; slip = None })) × (own.new ≡ own.old) × (handle.new ≡ handle.old) }
+        ensures same { (handle.new ≡ record handle.old { pass = handle.new.pass }) × (handle.new.pass.board ≡ handle.old.pass.board) }
+        ensures call { own.old.name ≡ (B.names shard).name → Fsyncs (B.names shard) first last handle.old handle.new result own.old own.new };
+}
+
+impl<B: ShardNaming, D: BlockDevice, T: Trail, const K: u64> Syncs<B, D> for Place<B, D, T, K> {
+    fn fsync_range<R: Wait>(
+        &self,
+        rt: &R,
+        _shard: u64,
+        own: &mut Seat,
+        handle: &mut Handle,
+        first: PageIndex,
+        last: PageIndex,
+    ) -> Result<ShardDurable<B, D>, Denied> {
+        self.cache().fsync_range_in(rt, own, handle, first, last)
+    }
+}
+
+impl<
+    B: ShardNaming,
+    D: BlockDevice,
+    T: Trail,
+    const I: u64,
+    const J: u64,
+    const K: u64,
+    const L: u64,
+> Syncs<B, D> for Four<B, D, T, I, J, K, L> {
+    fn fsync_range<R: Wait>(
+        &self,
+        rt: &R,
+        shard: u64,
+        own: &mut Seat,
+        handle: &mut Handle,
+        first: PageIndex,
+        last: PageIndex,
+    ) -> Result<ShardDurable<B, D>, Denied> {
+        at_quarter!(
+            self,
+            shard,
+            [J, K, L],
+            fsync_range(rt, shard, own, handle, first, last)
+        )
+    }
+}
+
+impl<B: ShardNaming, D: BlockDevice, T: Trail> Syncs<B, D> for Sixteen<B, D, T> {
+    fn fsync_range<R: Wait>(
+        &self,
+        rt: &R,
+        shard: u64,
+        own: &mut Seat,
+        handle: &mut Handle,
+        first: PageIndex,
+        last: PageIndex,
+    ) -> Result<ShardDurable<B, D>, Denied> {
+        at_quarter!(
+            self,
+            shard,
+            [4, 8, 12],
+            fsync_range(rt, shard, own, handle, first, last)
+        )
     }
 }
 
@@ -133,6 +190,7 @@ impl<B: ShardNaming, D: BlockDevice, T: Trail> ShardedCache<B, D, T> {
 
     /// Writes those of the file's pages from `first` to `last` to the device of its shard that are dirty. Refused by `BadRange` where
     /// `first` is past `last`, and by `Io` as `fsync` is: also where the write that failed was of a page outside the range.
+    #[tactic(auto, using(crate::proofs::ShardSeated::seated_on))]
     pub fn fsync_range<R: Wait>(
         &self,
         rt: &R,
@@ -150,11 +208,13 @@ impl<B: ShardNaming, D: BlockDevice, T: Trail> ShardedCache<B, D, T> {
         ensures same { (handle.new.shard ≡ handle.old.shard) × (handle.new.handle ≡ record handle.old.handle { pass = handle.new.handle.pass }) × (handle.new.handle.pass.board ≡ handle.old.handle.pass.board) }
         ensures call { handle.old.shard < B.shards → is_of (B.names handle.old.shard).name seat.old handle.old.shard ≡ true → Fsyncs (B.names handle.old.shard) first last handle.old.handle handle.new.handle result (part seat.old handle.old.shard) (part seat.new handle.old.shard) }
     {
-        at_shard!(
-            self,
-            handle.shard,
-            fsync_range(rt, seat, handle, first, last),
-            Err(without_slip(Refusal::BadHandle))
-        )
+        if handle.shard >= self.shards {
+            return Err(without_slip(Refusal::BadHandle));
+        }
+        let Some(own) = seat.seats.get_mut(handle.shard as usize) else {
+            return Err(without_slip(Refusal::Stranger));
+        };
+        self.caches
+            .fsync_range(rt, handle.shard, own, &mut handle.handle, first, last)
     }
 }

@@ -1,14 +1,16 @@
 //! Workers' turns and loops, in a shard.
 
-ghost use Rattle.std.specs.Prelude.{◌≡◌, ◌<◌, Some, length};
+ghost use Rattle.std.specs.Prelude.{◌≡◌, ◌<◌, ◌≤◌, Some, length, map};
+ghost use Rattle.shared.specs.ShardSeats.{AreSeated};
 ghost use Rattle.shared.specs.ShardWorkers.{AreWorkers, IsWorkerAt, WorksAt};
 ghost use Rattle.shared.specs.ShardWorks.{EndsAll, EndsOne, LetsPages, LetsSome, WritesBack, WritesOne};
+ghost use Rattle.shared.specs.Workers.{seat_of};
 
 use crate::cache::SharedCache;
 use crate::ends::Done;
 use crate::shards::cache::ShardedCache;
 use crate::shards::naming::{Shard, ShardNaming};
-use crate::shards::place::{Place, at_shard};
+use crate::shards::place::{Four, Place, Sixteen, Span, at_quarter};
 use crate::shards::worker::ShardWorker;
 use crate::turns::Flushed;
 use crate::worker::Worker;
@@ -77,117 +79,243 @@ impl<B: ShardNaming, D: BlockDevice, T: Trail, const K: u64> SharedCache<Shard<B
     }
 }
 
-impl<B: ShardNaming, D: BlockDevice, T: Trail, const K: u64> Place<B, D, T, K> {
-    pub(crate) fn io_turn<R: Wait, G: Gate>(
+/// Turns and loops of workers of one of these shards.
+pub(crate) trait Works<B: ShardNaming>: Span {
+    /// Tells the workers of all these shards to stop.
+    fn stop<R: Wait>(&self, rt: &R);
+
+    fn io_turn<R: Wait, G: Gate>(
         &self,
         rt: &R,
+        shard: u64,
         gate: &G,
-        worker: &mut ShardWorker,
+        worker: &mut Worker,
     ) -> Option<Done>
-        requires there { (K < B.shards) × (length worker.old ≡ B.shards) }
-        requires workers { AreWorkers B.names worker.old }
-        ensures turn { WorksAt K (EndsOne (B.names K) (G.passed gate.now) result) worker.old worker.new }
-        ensures workers { AreWorkers B.names worker.new }
-    {
-        let Some(cache) = self.cache() else {
-            unreachable!()
-        };
-        let Some(own) = worker.workers.get_mut(K as usize) else {
-            unreachable!()
-        };
-        cache.io_turn_in(rt, gate, own)
-    }
+        requires whole { Self.whole }
+        requires at { (Self.first ≤ shard) × (shard < Self.end) × (shard < B.shards) }
+        requires worker { IsWorkerAt (B.names shard) worker.old }
+        ensures turn { EndsOne (B.names shard) (G.passed gate.now) result worker.old worker.new };
 
-    pub(crate) fn flusher_turn<R: Wait, G: Gate>(
+    fn flusher_turn<R: Wait, G: Gate>(
         &self,
         rt: &R,
+        shard: u64,
         gate: &G,
-        worker: &mut ShardWorker,
+        worker: &mut Worker,
     ) -> Result<Flushed, Denied>
-        requires there { (K < B.shards) × (length worker.old ≡ B.shards) }
-        requires workers { AreWorkers B.names worker.old }
-        ensures turn { WorksAt K (WritesOne (B.names K) result) worker.old worker.new }
-        ensures workers { AreWorkers B.names worker.new }
-    {
-        let Some(cache) = self.cache() else {
-            unreachable!()
-        };
-        let Some(own) = worker.workers.get_mut(K as usize) else {
-            unreachable!()
-        };
-        cache.flusher_turn_in(rt, gate, own)
-    }
+        requires whole { Self.whole }
+        requires at { (Self.first ≤ shard) × (shard < Self.end) × (shard < B.shards) }
+        requires worker { IsWorkerAt (B.names shard) worker.old }
+        ensures turn { WritesOne (B.names shard) result worker.old worker.new };
 
-    pub(crate) fn evictor_turn<R: Wait, G: Gate>(
+    fn evictor_turn<R: Wait, G: Gate>(
         &self,
         rt: &R,
+        shard: u64,
         gate: &G,
-        worker: &mut ShardWorker,
+        worker: &mut Worker,
     ) -> Result<u64, Denied>
-        requires there { (K < B.shards) × (length worker.old ≡ B.shards) }
-        requires workers { AreWorkers B.names worker.old }
-        ensures turn { WorksAt K (LetsSome (B.names K) result) worker.old worker.new }
-        ensures workers { AreWorkers B.names worker.new }
-    {
-        let Some(cache) = self.cache() else {
-            unreachable!()
-        };
-        let Some(own) = worker.workers.get_mut(K as usize) else {
-            unreachable!()
-        };
-        cache.evictor_turn_in(rt, gate, own)
-    }
+        requires whole { Self.whole }
+        requires at { (Self.first ≤ shard) × (shard < Self.end) × (shard < B.shards) }
+        requires worker { IsWorkerAt (B.names shard) worker.old }
+        ensures turn { LetsSome (B.names shard) result worker.old worker.new };
 
-    pub(crate) fn io_worker<R: Wait, G: Gate>(&self, rt: &R, gate: &G, worker: &mut ShardWorker)
-        requires there { (K < B.shards) × (length worker.old ≡ B.shards) }
-        requires workers { AreWorkers B.names worker.old }
-        ensures turn { WorksAt K (EndsAll (B.names K)) worker.old worker.new }
-        ensures workers { AreWorkers B.names worker.new }
-    {
-        let Some(cache) = self.cache() else {
-            unreachable!()
-        };
-        let Some(own) = worker.workers.get_mut(K as usize) else {
-            unreachable!()
-        };
-        cache.io_worker_in(rt, gate, own)
-    }
+    fn io_worker<R: Wait, G: Gate>(&self, rt: &R, shard: u64, gate: &G, worker: &mut Worker)
+        requires whole { Self.whole }
+        requires at { (Self.first ≤ shard) × (shard < Self.end) × (shard < B.shards) }
+        requires worker { IsWorkerAt (B.names shard) worker.old }
+        ensures turn { EndsAll (B.names shard) worker.old worker.new };
 
-    pub(crate) fn flusher<R: Wait, G: Gate>(&self, rt: &R, gate: &G, worker: &mut ShardWorker)
-        requires there { (K < B.shards) × (length worker.old ≡ B.shards) }
-        requires workers { AreWorkers B.names worker.old }
-        ensures turn { WorksAt K (WritesBack (B.names K)) worker.old worker.new }
-        ensures workers { AreWorkers B.names worker.new }
-    {
-        let Some(cache) = self.cache() else {
-            unreachable!()
-        };
-        let Some(own) = worker.workers.get_mut(K as usize) else {
-            unreachable!()
-        };
-        cache.flusher_in(rt, gate, own)
-    }
+    fn flusher<R: Wait, G: Gate>(&self, rt: &R, shard: u64, gate: &G, worker: &mut Worker)
+        requires whole { Self.whole }
+        requires at { (Self.first ≤ shard) × (shard < Self.end) × (shard < B.shards) }
+        requires worker { IsWorkerAt (B.names shard) worker.old }
+        ensures turn { WritesBack (B.names shard) worker.old worker.new };
 
-    pub(crate) fn evictor<R: Wait, G: Gate>(&self, rt: &R, gate: &G, worker: &mut ShardWorker)
-        requires there { (K < B.shards) × (length worker.old ≡ B.shards) }
-        requires workers { AreWorkers B.names worker.old }
-        ensures turn { WorksAt K (LetsPages (B.names K)) worker.old worker.new }
-        ensures workers { AreWorkers B.names worker.new }
-    {
-        let Some(cache) = self.cache() else {
-            unreachable!()
-        };
-        let Some(own) = worker.workers.get_mut(K as usize) else {
-            unreachable!()
-        };
-        cache.evictor_in(rt, gate, own)
-    }
+    fn evictor<R: Wait, G: Gate>(&self, rt: &R, shard: u64, gate: &G, worker: &mut Worker)
+        requires whole { Self.whole }
+        requires at { (Self.first ≤ shard) × (shard < Self.end) × (shard < B.shards) }
+        requires worker { IsWorkerAt (B.names shard) worker.old }
+        ensures turn { LetsPages (B.names shard) worker.old worker.new };
+}
 
-    /// Tells this shard's workers to stop.
+impl<B: ShardNaming, D: BlockDevice, T: Trail, const K: u64> Works<B> for Place<B, D, T, K> {
     fn stop<R: Wait>(&self, rt: &R) {
-        if let Some(cache) = self.cache() {
+        if let Some(cache) = self.caches.first() {
             cache.stop(rt);
         }
+    }
+
+    fn io_turn<R: Wait, G: Gate>(
+        &self,
+        rt: &R,
+        _shard: u64,
+        gate: &G,
+        worker: &mut Worker,
+    ) -> Option<Done> {
+        self.cache().io_turn_in(rt, gate, worker)
+    }
+
+    fn flusher_turn<R: Wait, G: Gate>(
+        &self,
+        rt: &R,
+        _shard: u64,
+        gate: &G,
+        worker: &mut Worker,
+    ) -> Result<Flushed, Denied> {
+        self.cache().flusher_turn_in(rt, gate, worker)
+    }
+
+    fn evictor_turn<R: Wait, G: Gate>(
+        &self,
+        rt: &R,
+        _shard: u64,
+        gate: &G,
+        worker: &mut Worker,
+    ) -> Result<u64, Denied> {
+        self.cache().evictor_turn_in(rt, gate, worker)
+    }
+
+    fn io_worker<R: Wait, G: Gate>(&self, rt: &R, _shard: u64, gate: &G, worker: &mut Worker) {
+        self.cache().io_worker_in(rt, gate, worker)
+    }
+
+    fn flusher<R: Wait, G: Gate>(&self, rt: &R, _shard: u64, gate: &G, worker: &mut Worker) {
+        self.cache().flusher_in(rt, gate, worker)
+    }
+
+    fn evictor<R: Wait, G: Gate>(&self, rt: &R, _shard: u64, gate: &G, worker: &mut Worker) {
+        self.cache().evictor_in(rt, gate, worker)
+    }
+}
+
+impl<
+    B: ShardNaming,
+    D: BlockDevice,
+    T: Trail,
+    const I: u64,
+    const J: u64,
+    const K: u64,
+    const L: u64,
+> Works<B> for Four<B, D, T, I, J, K, L> {
+    fn stop<R: Wait>(&self, rt: &R) {
+        self.part_0.stop(rt);
+        self.part_1.stop(rt);
+        self.part_2.stop(rt);
+        self.part_3.stop(rt);
+    }
+
+    fn io_turn<R: Wait, G: Gate>(
+        &self,
+        rt: &R,
+        shard: u64,
+        gate: &G,
+        worker: &mut Worker,
+    ) -> Option<Done> {
+        at_quarter!(self, shard, [J, K, L], io_turn(rt, shard, gate, worker))
+    }
+
+    fn flusher_turn<R: Wait, G: Gate>(
+        &self,
+        rt: &R,
+        shard: u64,
+        gate: &G,
+        worker: &mut Worker,
+    ) -> Result<Flushed, Denied> {
+        at_quarter!(
+            self,
+            shard,
+            [J, K, L],
+            flusher_turn(rt, shard, gate, worker)
+        )
+    }
+
+    fn evictor_turn<R: Wait, G: Gate>(
+        &self,
+        rt: &R,
+        shard: u64,
+        gate: &G,
+        worker: &mut Worker,
+    ) -> Result<u64, Denied> {
+        at_quarter!(
+            self,
+            shard,
+            [J, K, L],
+            evictor_turn(rt, shard, gate, worker)
+        )
+    }
+
+    fn io_worker<R: Wait, G: Gate>(&self, rt: &R, shard: u64, gate: &G, worker: &mut Worker) {
+        at_quarter!(self, shard, [J, K, L], io_worker(rt, shard, gate, worker))
+    }
+
+    fn flusher<R: Wait, G: Gate>(&self, rt: &R, shard: u64, gate: &G, worker: &mut Worker) {
+        at_quarter!(self, shard, [J, K, L], flusher(rt, shard, gate, worker))
+    }
+
+    fn evictor<R: Wait, G: Gate>(&self, rt: &R, shard: u64, gate: &G, worker: &mut Worker) {
+        at_quarter!(self, shard, [J, K, L], evictor(rt, shard, gate, worker))
+    }
+}
+
+impl<B: ShardNaming, D: BlockDevice, T: Trail> Works<B> for Sixteen<B, D, T> {
+    fn stop<R: Wait>(&self, rt: &R) {
+        self.part_0.stop(rt);
+        self.part_1.stop(rt);
+        self.part_2.stop(rt);
+        self.part_3.stop(rt);
+    }
+
+    fn io_turn<R: Wait, G: Gate>(
+        &self,
+        rt: &R,
+        shard: u64,
+        gate: &G,
+        worker: &mut Worker,
+    ) -> Option<Done> {
+        at_quarter!(self, shard, [4, 8, 12], io_turn(rt, shard, gate, worker))
+    }
+
+    fn flusher_turn<R: Wait, G: Gate>(
+        &self,
+        rt: &R,
+        shard: u64,
+        gate: &G,
+        worker: &mut Worker,
+    ) -> Result<Flushed, Denied> {
+        at_quarter!(
+            self,
+            shard,
+            [4, 8, 12],
+            flusher_turn(rt, shard, gate, worker)
+        )
+    }
+
+    fn evictor_turn<R: Wait, G: Gate>(
+        &self,
+        rt: &R,
+        shard: u64,
+        gate: &G,
+        worker: &mut Worker,
+    ) -> Result<u64, Denied> {
+        at_quarter!(
+            self,
+            shard,
+            [4, 8, 12],
+            evictor_turn(rt, shard, gate, worker)
+        )
+    }
+
+    fn io_worker<R: Wait, G: Gate>(&self, rt: &R, shard: u64, gate: &G, worker: &mut Worker) {
+        at_quarter!(self, shard, [4, 8, 12], io_worker(rt, shard, gate, worker))
+    }
+
+    fn flusher<R: Wait, G: Gate>(&self, rt: &R, shard: u64, gate: &G, worker: &mut Worker) {
+        at_quarter!(self, shard, [4, 8, 12], flusher(rt, shard, gate, worker))
+    }
+
+    fn evictor<R: Wait, G: Gate>(&self, rt: &R, shard: u64, gate: &G, worker: &mut Worker) {
+        at_quarter!(self, shard, [4, 8, 12], evictor(rt, shard, gate, worker))
     }
 }
 
@@ -205,9 +333,13 @@ impl<B: ShardNaming, D: BlockDevice, T: Trail> ShardedCache<B, D, T> {
         requires workers { AreWorkers B.names worker.old }
         ensures turn { WorksAt shard (EndsOne (B.names shard) (G.passed gate.now) result) worker.old worker.new }
         ensures workers { AreWorkers B.names worker.new }
+        ensures seated { AreSeated B.names (map seat_of worker.old) → AreSeated B.names (map seat_of worker.new) }
         ensures count { length worker.new ≡ B.shards }
     {
-        at_shard!(self, shard, io_turn(rt, gate, worker), unreachable!())
+        let Some(own) = worker.workers.get_mut(shard as usize) else {
+            unreachable!()
+        };
+        self.caches.io_turn(rt, shard, gate, own)
     }
 
     /// One turn of a flusher of a shard: it begins to write the lowest page of the first file that has one to write, and puts the job into
@@ -224,9 +356,13 @@ impl<B: ShardNaming, D: BlockDevice, T: Trail> ShardedCache<B, D, T> {
         requires workers { AreWorkers B.names worker.old }
         ensures turn { WorksAt shard (WritesOne (B.names shard) result) worker.old worker.new }
         ensures workers { AreWorkers B.names worker.new }
+        ensures seated { AreSeated B.names (map seat_of worker.old) → AreSeated B.names (map seat_of worker.new) }
         ensures count { length worker.new ≡ B.shards }
     {
-        at_shard!(self, shard, flusher_turn(rt, gate, worker), unreachable!())
+        let Some(own) = worker.workers.get_mut(shard as usize) else {
+            unreachable!()
+        };
+        self.caches.flusher_turn(rt, shard, gate, own)
     }
 
     /// One turn of an evictor of a shard: while few frames are free, pages of the active list age and the first idle page goes. It ends
@@ -243,9 +379,13 @@ impl<B: ShardNaming, D: BlockDevice, T: Trail> ShardedCache<B, D, T> {
         requires workers { AreWorkers B.names worker.old }
         ensures turn { WorksAt shard (LetsSome (B.names shard) result) worker.old worker.new }
         ensures workers { AreWorkers B.names worker.new }
+        ensures seated { AreSeated B.names (map seat_of worker.old) → AreSeated B.names (map seat_of worker.new) }
         ensures count { length worker.new ≡ B.shards }
     {
-        at_shard!(self, shard, evictor_turn(rt, gate, worker), unreachable!())
+        let Some(own) = worker.workers.get_mut(shard as usize) else {
+            unreachable!()
+        };
+        self.caches.evictor_turn(rt, shard, gate, own)
     }
 
     /// Carries out the jobs of a shard's ring, and sleeps where there are none. Told to stop, it goes on till no flusher of the shard is in
@@ -261,9 +401,13 @@ impl<B: ShardNaming, D: BlockDevice, T: Trail> ShardedCache<B, D, T> {
         requires workers { AreWorkers B.names worker.old }
         ensures turn { WorksAt shard (EndsAll (B.names shard)) worker.old worker.new }
         ensures workers { AreWorkers B.names worker.new }
+        ensures seated { AreSeated B.names (map seat_of worker.old) → AreSeated B.names (map seat_of worker.new) }
         ensures count { length worker.new ≡ B.shards }
     {
-        at_shard!(self, shard, io_worker(rt, gate, worker), unreachable!())
+        let Some(own) = worker.workers.get_mut(shard as usize) else {
+            unreachable!()
+        };
+        self.caches.io_worker(rt, shard, gate, own)
     }
 
     /// Writes pages of a shard back while there are any to write, and sleeps where there are none, until it is told to stop.
@@ -272,9 +416,13 @@ impl<B: ShardNaming, D: BlockDevice, T: Trail> ShardedCache<B, D, T> {
         requires workers { AreWorkers B.names worker.old }
         ensures turn { WorksAt shard (WritesBack (B.names shard)) worker.old worker.new }
         ensures workers { AreWorkers B.names worker.new }
+        ensures seated { AreSeated B.names (map seat_of worker.old) → AreSeated B.names (map seat_of worker.new) }
         ensures count { length worker.new ≡ B.shards }
     {
-        at_shard!(self, shard, flusher(rt, gate, worker), unreachable!())
+        let Some(own) = worker.workers.get_mut(shard as usize) else {
+            unreachable!()
+        };
+        self.caches.flusher(rt, shard, gate, own)
     }
 
     /// Lets pages of a shard go while few frames are free, and sleeps where enough are, until it is told to stop.
@@ -283,28 +431,17 @@ impl<B: ShardNaming, D: BlockDevice, T: Trail> ShardedCache<B, D, T> {
         requires workers { AreWorkers B.names worker.old }
         ensures turn { WorksAt shard (LetsPages (B.names shard)) worker.old worker.new }
         ensures workers { AreWorkers B.names worker.new }
+        ensures seated { AreSeated B.names (map seat_of worker.old) → AreSeated B.names (map seat_of worker.new) }
         ensures count { length worker.new ≡ B.shards }
     {
-        at_shard!(self, shard, evictor(rt, gate, worker), unreachable!())
+        let Some(own) = worker.workers.get_mut(shard as usize) else {
+            unreachable!()
+        };
+        self.caches.evictor(rt, shard, gate, own)
     }
 
     /// Tells the workers of all shards to stop. It waits for none of them.
     pub fn stop<R: Wait>(&self, rt: &R) {
-        self.place_0.stop(rt);
-        self.place_1.stop(rt);
-        self.place_2.stop(rt);
-        self.place_3.stop(rt);
-        self.place_4.stop(rt);
-        self.place_5.stop(rt);
-        self.place_6.stop(rt);
-        self.place_7.stop(rt);
-        self.place_8.stop(rt);
-        self.place_9.stop(rt);
-        self.place_10.stop(rt);
-        self.place_11.stop(rt);
-        self.place_12.stop(rt);
-        self.place_13.stop(rt);
-        self.place_14.stop(rt);
-        self.place_15.stop(rt);
+        self.caches.stop(rt);
     }
 }

@@ -1,14 +1,17 @@
 //! Who works for a cache of shards beside its callers.
 
-ghost use Rattle.std.specs.Prelude.{◌≡◌, ◌<◌, ◌≤◌, ◌+◌, ◌-◌, ◌⊎◌, ◌++◌, [], ℕ, IfErr, IfOk, length, map, min, vec_capacity, vec_len};
+ghost use Rattle.std.specs.Prelude.{◌≡◌, ◌<◌, ◌≤◌, ◌+◌, ◌-◌, ◌⊎◌, ◌++◌, [], ℕ, IfErr, IfOk, List, OnOk, Some, length, map, min, vec_capacity, vec_len};
 ghost use Rattle.pc_types.specs.declared.refusal.Refusal.TheVariants.{Memory, Stranger};
+ghost use Rattle.shared.specs.ShardParts.{AllBoth};
 ghost use Rattle.shared.specs.ShardSeats.{AreSeated, IsSeated, part};
-ghost use Rattle.shared.specs.ShardWorkers.{AllFrom, AreWorkers, IsWorkerAt};
+ghost use Rattle.shared.specs.ShardWorkers.{AllFrom, AreWorkers, HasMadeOne, HaveMadeFrom, IsMadeBy, IsWorkerAt};
 ghost use Rattle.shared.specs.Workers.{seat_of};
+ghost use Rattle.shared.specs.declared.worker.Worker.{Worker};
 
+use crate::cache::SharedCache;
 use crate::shards::cache::ShardedCache;
-use crate::shards::naming::ShardNaming;
-use crate::shards::place::Place;
+use crate::shards::naming::{Shard, ShardNaming};
+use crate::shards::place::{Four, Place, Sixteen, Span};
 use crate::shards::seat::ShardSeat;
 use crate::worker::Worker;
 use blockdev::BlockDevice;
@@ -36,24 +39,50 @@ impl Model for ShardWorker {
     ghost view = { λ w. w.workers.items };
 }
 
-impl<B: ShardNaming, D: BlockDevice, T: Trail, const K: u64> Place<B, D, T, K> {
-    /// Makes a worker of shard K, of the caller's last seat, where there are so many shards. It goes before the others.
-    fn add_worker(&self, own: &mut ShardWorker, seats: &mut Vec<Seat>, workers: &mut Vec<Worker>)
+impl<B: ShardNaming, D: BlockDevice, T: Trail, const K: u64> SharedCache<Shard<B, K>, D, T> {
+    /// A worker, by a seat of the shard's own cache.
+    fn worker_in(&self, own: &mut Worker, seat: Seat) -> Worker
+        requires ring { (B.names K).ring ≡ Some self.now.ring }
+        requires own { IsWorkerAt (B.names K) own.old }
+        requires seat { (seat.name ≡ (B.names K).name) × (seat.table ≡ (B.names K).table) }
+        ensures worker { IsWorkerAt (B.names K) result }
+        ensures seat { seat_of result ≡ seat }
+        ensures new { IsMadeBy own.old result }
+        ensures own { IsWorkerAt (B.names K) own.new }
+        ensures made { HasMadeOne own.old own.new }
+    {
+        let Ok(worker) = self.worker(own, seat) else {
+            unreachable!()
+        };
+        worker
+    }
+}
+
+/// Who makes workers of these shards.
+pub(crate) trait Staffs<B: ShardNaming>: Span {
+    /// Makes a worker of each of these shards, where there are so many, of the caller's last seats. They go before those of the shards that
+    /// follow.
+    fn add_workers(&self, own: &mut ShardWorker, seats: &mut Vec<Seat>, workers: &mut Vec<Worker>)
+        requires whole { Self.whole }
         requires own { (length own.old ≡ B.shards) × AreWorkers B.names own.old }
-        requires left { vec_len seats.old ≡ min B.shards (K + 1) }
+        requires left { vec_len seats.old ≡ min B.shards Self.end }
         requires seated { (k : ℕ) → k < vec_len seats.old → ((part seats.old.items k).name ≡ (B.names k).name) × ((part seats.old.items k).table ≡ (B.names k).table) }
-        requires count { vec_len workers.old ≡ B.shards - (K + 1) }
+        requires count { vec_len workers.old ≡ B.shards - Self.end }
         requires spare { B.shards ≤ vec_capacity workers.old }
-        requires workers { AllFrom (λ k w. IsWorkerAt (B.names k) w) (K + 1) workers.old.items }
+        requires workers { AllFrom (λ k w. IsWorkerAt (B.names k) w) Self.end workers.old.items }
         ensures own { (length own.new ≡ B.shards) × AreWorkers B.names own.new }
-        ensures left { vec_len seats.new ≡ min B.shards K }
+        ensures left { vec_len seats.new ≡ min B.shards Self.first }
         ensures seated { (k : ℕ) → k < vec_len seats.new → ((part seats.new.items k).name ≡ (B.names k).name) × ((part seats.new.items k).table ≡ (B.names k).table) }
-        ensures count { vec_len workers.new ≡ B.shards - K }
+        ensures count { vec_len workers.new ≡ B.shards - Self.first }
         ensures spare { B.shards ≤ vec_capacity workers.new }
-        ensures workers { AllFrom (λ k w. IsWorkerAt (B.names k) w) K workers.new.items }
+        ensures workers { AllFrom (λ k w. IsWorkerAt (B.names k) w) Self.first workers.new.items }
         ensures same { seats.new.items ++ map seat_of workers.new.items ≡ seats.old.items ++ map seat_of workers.old.items }
         ensures room { vec_capacity seats.new ≡ vec_capacity seats.old }
-    {
+        ensures made { (first : List Worker) → HaveMadeFrom Self.end first own.old workers.old.items → HaveMadeFrom Self.first first own.new workers.new.items };
+}
+
+impl<B: ShardNaming, D: BlockDevice, T: Trail, const K: u64> Staffs<B> for Place<B, D, T, K> {
+    fn add_workers(&self, own: &mut ShardWorker, seats: &mut Vec<Seat>, workers: &mut Vec<Worker>) {
         let Some(cache) = self.caches.first() else {
             return;
         };
@@ -63,12 +92,38 @@ impl<B: ShardNaming, D: BlockDevice, T: Trail, const K: u64> Place<B, D, T, K> {
         let Some(own) = own.workers.get_mut(K as usize) else {
             unreachable!()
         };
-        let Ok(worker) = cache.worker(own, seat) else {
-            unreachable!()
-        };
+        let worker = cache.worker_in(own, seat);
         let Ok(()) = workers.insert(0, worker) else {
             unreachable!()
         };
+    }
+}
+
+impl<
+    B: ShardNaming,
+    D: BlockDevice,
+    T: Trail,
+    const I: u64,
+    const J: u64,
+    const K: u64,
+    const L: u64,
+> Staffs<B> for Four<B, D, T, I, J, K, L> {
+    // the last first
+    fn add_workers(&self, own: &mut ShardWorker, seats: &mut Vec<Seat>, workers: &mut Vec<Worker>) {
+        self.part_3.add_workers(own, seats, workers);
+        self.part_2.add_workers(own, seats, workers);
+        self.part_1.add_workers(own, seats, workers);
+        self.part_0.add_workers(own, seats, workers);
+    }
+}
+
+impl<B: ShardNaming, D: BlockDevice, T: Trail> Staffs<B> for Sixteen<B, D, T> {
+    // the last first
+    fn add_workers(&self, own: &mut ShardWorker, seats: &mut Vec<Seat>, workers: &mut Vec<Worker>) {
+        self.part_3.add_workers(own, seats, workers);
+        self.part_2.add_workers(own, seats, workers);
+        self.part_1.add_workers(own, seats, workers);
+        self.part_0.add_workers(own, seats, workers);
     }
 }
 
@@ -86,7 +141,9 @@ impl<B: ShardNaming, D: BlockDevice, T: Trail> ShardedCache<B, D, T> {
         ensures stranger { (IsSeated B.shards B.names seat → ⊥) → IfErr result (λ e. e.0 ≡ Stranger) }
         ensures worker { IfOk result (λ w. (length w ≡ B.shards) × AreWorkers B.names w) }
         ensures seat { IfOk result (λ w. map seat_of w ≡ seat) }
+        ensures new { IfOk result (λ w. AllBoth IsMadeBy own.old w) }
         ensures own { (length own.new ≡ B.shards) × AreWorkers B.names own.new }
+        ensures made { OnOk result (AllBoth HasMadeOne own.old own.new) }
     {
         if !self.seats(&seat) {
             return Err((Refusal::Stranger, seat));
@@ -95,23 +152,7 @@ impl<B: ShardNaming, D: BlockDevice, T: Trail> ShardedCache<B, D, T> {
             return Err((Refusal::Memory, seat));
         };
         let ShardSeat { mut seats } = seat;
-        // the last first
-        self.place_15.add_worker(own, &mut seats, &mut workers);
-        self.place_14.add_worker(own, &mut seats, &mut workers);
-        self.place_13.add_worker(own, &mut seats, &mut workers);
-        self.place_12.add_worker(own, &mut seats, &mut workers);
-        self.place_11.add_worker(own, &mut seats, &mut workers);
-        self.place_10.add_worker(own, &mut seats, &mut workers);
-        self.place_9.add_worker(own, &mut seats, &mut workers);
-        self.place_8.add_worker(own, &mut seats, &mut workers);
-        self.place_7.add_worker(own, &mut seats, &mut workers);
-        self.place_6.add_worker(own, &mut seats, &mut workers);
-        self.place_5.add_worker(own, &mut seats, &mut workers);
-        self.place_4.add_worker(own, &mut seats, &mut workers);
-        self.place_3.add_worker(own, &mut seats, &mut workers);
-        self.place_2.add_worker(own, &mut seats, &mut workers);
-        self.place_1.add_worker(own, &mut seats, &mut workers);
-        self.place_0.add_worker(own, &mut seats, &mut workers);
+        self.caches.add_workers(own, &mut seats, &mut workers);
         Ok(ShardWorker {
             workers,
             desk: seats,

@@ -12,6 +12,7 @@ ghosts-time_named-B-Naming g a = record {
   seats = a.opened.log.made;
   whole = a.opened.log.room;
   blocks = a.deeds.blocks;
+  calls = 0;
 }
 
 -- the deeds that were just opened

@@ -1,8 +1,9 @@
-use Rattle.std.proofs.Common.{◌≡◌, List, ap, subst, sym, ◌∙◌}
+use Rattle.std.proofs.Common.{◌≡◌, ◌+◌, List, ap, subst, sym, ◌∙◌}
 use Rattle.std.specs.Prelude.{slice_get, Some, OnOk}
 use Rattle.blockdev.specs.Jobs.{FinishedTask, Task}
 use Rattle.deeds.specs.Shown.{Settles}
 use Rattle.deeds.specs.Views.{home_in}
+use Rattle.deeds.specs.declared.views.Block.{Block}
 use Rattle.deeds.specs.declared.views.Place.{Place}
 use Rattle.deeds.specs.declared.views.Place.TheVariants.{Home}
 use Rattle.tests_deeds.proofs.Flushed.{flush_home}
@@ -16,5 +17,6 @@ returns-clause-well g c =
     (λ i. (c.give-errand.ensures.desk i, c.parts-finished.ensures.stub i)) c.take_back.ensures.settled in
     let well = flush_home g.B.NamesDeeds.told c.args.desk.now c.take_back.new.self job
     (home_in c.args.desk.now job.block) c.made-report.result c.requires.told c.requires.job.0 c.requires.home at s in
-    subst (λ (f : FinishedTask). OnOk f.outcome (slice_get c.take_back.new.self job.block ≡ Some (Home job.bytes)))
+    let now : Block = record { bytes = job.bytes; calls = (home_in c.args.desk.now job.block).calls + 1 } in
+    subst (λ (f : FinishedTask). OnOk f.outcome (slice_get c.take_back.new.self job.block ≡ Some (Home now)))
     (sym c.parts-finished.ensures.finished) well

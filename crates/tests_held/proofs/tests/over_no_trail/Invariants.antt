@@ -12,6 +12,7 @@ ghosts-run_named-B-Naming g a = record {
   seats = a.opened.log.made;
   whole = a.opened.log.room;
   blocks = a.deeds.blocks;
+  calls = 0;
 }
 
 abbrev pub ghosts-run_named-B-NamesDeeds : goal.ghosts-run_named-B-NamesDeeds

@@ -12,6 +12,7 @@ ghosts-by_two_seats-B-Naming g a = record {
   seats = a.opened.log.made;
   whole = a.opened.log.room;
   blocks = a.deeds.blocks;
+  calls = 0;
 }
 
 abbrev pub ghosts-by_two_seats-B-NamesDeeds : goal.ghosts-by_two_seats-B-NamesDeeds

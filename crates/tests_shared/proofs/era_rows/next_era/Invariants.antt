@@ -13,6 +13,7 @@ ghosts-era_over-B-Naming g a = record {
   seats = vec_len a.seats + 1;
   whole = a.parts.held.log.room;
   blocks = a.parts.deeds.blocks;
+  calls = (g.D.BlockDevice.told a.parts.device).calls;
 }
 
 abbrev pub ghosts-era_over-B-NamesDeeds : goal.ghosts-era_over-B-NamesDeeds

@@ -13,6 +13,7 @@ ghosts-first_over-B-Naming g a = record {
   seats = vec_len a.seats + 1;
   whole = a.parts.held.log.room;
   blocks = a.parts.deeds.blocks;
+  calls = a.parts.device.calls;
 }
 
 abbrev pub ghosts-first_over-B-NamesDeeds : goal.ghosts-first_over-B-NamesDeeds
@@ -29,6 +30,7 @@ ghosts-second_over-B-Naming g a = record {
   seats = vec_len a.seats + 1;
   whole = a.parts.held.log.room;
   blocks = a.parts.deeds.blocks;
+  calls = a.parts.device.calls;
 }
 
 abbrev pub ghosts-second_over-B-NamesDeeds : goal.ghosts-second_over-B-NamesDeeds

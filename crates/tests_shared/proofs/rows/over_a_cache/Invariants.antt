@@ -13,6 +13,7 @@ ghosts-runs_over-B-Naming g a = record {
   seats = vec_len a.seats + 1;
   whole = a.parts.held.log.room;
   blocks = a.parts.deeds.blocks;
+  calls = a.parts.device.device.calls;
 }
 
 -- and their deeds

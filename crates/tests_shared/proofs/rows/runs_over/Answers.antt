@@ -17,8 +17,8 @@ leaves_a_history-requires-clause-seats g c = fresh_seated g.B.Naming.table g.B.N
 pub stops_with_a_full_ring-requires-clause-seats : goal.stops_with_a_full_ring-requires-clause-seats
 stops_with_a_full_ring-requires-clause-seats g c = fresh_seated g.B.Naming.table g.B.Naming.name c.args.seats.items c.requires.seats
 
-pub wakes_each_time-requires-clause-seats : goal.wakes_each_time-requires-clause-seats
-wakes_each_time-requires-clause-seats g c κs within =
+pub wakes-requires-clause-seats : goal.wakes-requires-clause-seats
+wakes-requires-clause-seats g c κs within =
     fresh_seated g.B.Naming.table g.B.Naming.name c.args.seats.items c.requires.seats
 
 pub two_of-requires : goal.two_of-requires

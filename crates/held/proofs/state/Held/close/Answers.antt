@@ -4,7 +4,8 @@ use mathlib.Core.List.{IsPrefix}
 use Rattle.held.specs.Views.{count_of}
 use Rattle.held.specs.Shown.{HeldSeen, SeatSeen}
 use Rattle.held.proofs.Closes.{not_refused}
-use Rattle.tied.specs.Tied.{Tied}
+use Rattle.deeds.specs.Shown.{calls_of, known}
+use Rattle.tied.specs.Tied.{Tied, ended_count}
 use Rattle.held.proofs.state.Held.close.Goals as goal
 
 pub close-trail-requires-clause-came : goal.close-trail-requires-clause-came
@@ -32,3 +33,8 @@ pub returns-clause-tied : goal.returns-clause-tied
 returns-clause-tied g c = λ tells.
     subst (λ (h : HeldSeen). Tied g.B.Naming.files g.B.Naming.sizes g.B.Naming.name g.B.Naming.blocks h.log.history c.self.inside.core.state
     c.self.inside.desk) c.self.view_is (c.self.invariant.1.tied tells)
+
+pub returns-clause-counted : goal.returns-clause-counted
+returns-clause-counted g c =
+    subst (λ (h : HeldSeen). calls_of (known c.self.inside.desk) ≡ ended_count h.log.history) c.self.view_is
+    c.self.invariant.1.counted

@@ -4,10 +4,13 @@ use Rattle.cachecore.specs.Core.{Core}
 use Rattle.pc_types.specs.Limits.{Sizes}
 use Rattle.held.specs.declared.log.Seat.{Seat}
 use Rattle.deeds.specs.Rules.{Knows}
+use Rattle.deeds.specs.Shown.{bytes_of, calls_of}
+use Rattle.tied.proofs.Kept.{kept_calls}
 use Rattle.tied.proofs.Tied.{tied_at, tied_busy, tied_honest}
 use Rattle.held.specs.Shown.{SeatSeen}
 use Rattle.shared.specs.Workers.{AllEnded, AllOver, company_of, pushed_by}
 use Rattle.shared.specs.declared.worker.Worker.{Worker}
+use Rattle.shared.proofs.CallCounts.{called_for}
 use Rattle.shared.proofs.Closing.{not_by_its_own}
 use Rattle.shared.proofs.cache.SharedCache.close.Goals as goal
 
@@ -54,13 +57,17 @@ returns-in-Ok-clause-closed g c = (
     world = t.world;
     honest = tied_honest _ _ _ _ _ _ _ t;
     core_is = t.core_is;
-    left = c.into_parts-device.result.1;
+    left = bytes_of c.into_parts-device.result.1;
     told = c.into_parts-device.ensures.contents tells;
     each = λ k low free. tied_at _ _ _ _ _ _ _ t g.B.NamesDeeds.told c.in-Ok.ensures.desk c.into_parts-device.result.1 c.close-in-Ok.ensures.knows k
         (subst (λ (s : Sizes). k < s.blocks) (sym c.in-Ok.ensures.core.1) low) free;
     busy = λ u x there. tied_busy _ _ _ _ _ _ _ t c.in-Ok.ensures.desk c.into_parts-device.result.1
         (subst (λ b. Knows b c.into_parts-device.result.1 c.in-Ok.desk) tells c.close-in-Ok.ensures.knows) u x there;
   },
+  called_for g.B.Naming.calls (calls_of c.into_parts-device.result.1) c.drain.new.state.log.history c.in-Ok.core.state
+      (g.D.BlockDevice.told c.into_parts-device.result.0) c.into_parts-device.ensures.made
+      (kept_calls g.B.NamesDeeds.told c.drain.new.state.log.history c.in-Ok.core.state c.in-Ok.desk
+      c.into_parts-device.result.1 c.in-Ok.ensures.desk c.in-Ok.ensures.counted c.close-in-Ok.ensures.knows),
 )
 
 -- the jobs that it took were ended all the same

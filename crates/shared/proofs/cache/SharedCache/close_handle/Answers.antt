@@ -18,5 +18,5 @@ returns-clause-denied g c own here =
     subst (λ (n : HandleId). IsDenied g.B.Naming.files g.B.Naming.sizes g.B.Naming.name g.B.Naming.whole (λ e. e ≡ event.Close n) c.args.seat.now
     c.close_handle.new.seat c.in-Err-close_handle.denied) (ap (λ (h : HandleSeen). h.number) c.handle.view_is)
     (denied_event g.B.Naming.files g.B.Naming.sizes g.B.Naming.name g.B.Naming.whole (event.Close c.handle.inside.number) c.deref_mut.result.now
-    c.close_handle.new.self c.args.seat.now c.close_handle.new.seat c.in-Err-close_handle.denied
+    c.close_handle.new.self c.args.seat.now c.close_handle.new.seat c.in-Err-close_handle.denied tt
     c.in-Err-close_handle.ensures.denied)

@@ -8,7 +8,7 @@ use Rattle.shared.proofs.cache.SharedCache.create.Goals as goal
 
 pub returns-clause-denied : goal.returns-clause-denied
 returns-clause-denied g c own = event_denied g.B.Naming.files g.B.Naming.sizes g.B.Naming.name g.B.Naming.whole c.create.result event.Create c.deref_mut.result.now c.create.new.self
-    c.args.seat.now c.create.new.seat c.create.ensures.denied
+    c.args.seat.now c.create.new.seat tt c.create.ensures.denied
 
 pub returns-clause-full : goal.returns-clause-full
 returns-clause-full g c own = event_full g.B.Naming.files g.B.Naming.sizes g.B.Naming.name g.B.Naming.whole c.create.result event.Create c.deref_mut.result.now c.create.new.self

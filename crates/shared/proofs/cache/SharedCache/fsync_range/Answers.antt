@@ -11,10 +11,16 @@ use Rattle.shared.specs.Rooms.{IsFinal}
 use Rattle.shared.specs.Settled.{Settles}
 use Rattle.shared.specs.Synced.{IsNotBegun, IsSyncDenied, Reports}
 use Rattle.shared.proofs.Hearing.{hears_told}
-use Rattle.shared.proofs.Rooming.{admitted_final, final_lasting}
+use Rattle.shared.proofs.Rooming.{admitted_final, admitted_own, final_lasting}
 use Rattle.shared.proofs.Settling.{settles_same}
-use Rattle.shared.proofs.Syncing.{fsync_clean, fsync_denied, fsync_failed, report_final, sync_denied}
+use Rattle.shared.proofs.Syncing.{fsync_clean, fsync_denied, fsync_failed, report_final, sync_denied, syncs_of}
 use Rattle.shared.proofs.cache.SharedCache.fsync_range.Goals as goal
+
+-- the slip that the flush is for is of this cache
+pub flush_after-flushed-requires-clause-own : goal.flush_after-flushed-requires-clause-own
+flush_after-flushed-requires-clause-own g c =
+    syncs_of _ c.args.first c.args.last _ c.args.seat.now c.sync_pages.new.seat c.in-Ok.synced.slip g.B.Naming.name c.in-Ok.ensures.ended
+    (admitted_own c.args.self.now.name c.args.seat.now.name c.args.handle.now.cache (sym c.admits.ensures ∙ c.in_default.is) ∙ c.args.self.now.named)
 
 pub returns-in-Err-sync_pages-clause-denied : goal.returns-in-Err-sync_pages-clause-denied
 returns-in-Err-sync_pages-clause-denied g c own here =

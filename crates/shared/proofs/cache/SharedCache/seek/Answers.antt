@@ -20,7 +20,7 @@ returns-in-End-clause-sought g c own here =
       subst (λ (n : HandleId). IsDenied g.B.Naming.files g.B.Naming.sizes g.B.Naming.name g.B.Naming.whole (λ e. e ≡ event.Size n) c.args.seat.now c.size.new.seat c.in-Err-size.denied)
           (ap (λ (h : HandleSeen). h.number) c.handle.view_is)
           (denied_event g.B.Naming.files g.B.Naming.sizes g.B.Naming.name g.B.Naming.whole (event.Size c.handle.inside.number) c.deref_mut.result.now c.size.new.self c.args.seat.now
-          c.size.new.seat c.in-Err-size.denied c.in-Err-size.ensures.denied),
+          c.size.new.seat c.in-Err-size.denied tt c.in-Err-size.ensures.denied),
       full_by g.B.Naming.files g.B.Naming.sizes g.B.Naming.name g.B.Naming.whole (event.Size c.handle.inside.number) c.deref_mut.result.now c.size.new.self c.args.seat.now
           c.size.new.seat c.in-Err-size.denied c.in-Err-size.ensures.denied,
       denied_one g.B.Naming.files g.B.Naming.sizes g.B.Naming.name g.B.Naming.whole (event.Size c.handle.inside.number) c.deref_mut.result.now c.size.new.self c.args.seat.now

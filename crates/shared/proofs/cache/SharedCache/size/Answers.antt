@@ -18,7 +18,7 @@ returns-clause-denied g c own here =
     subst (λ (n : HandleId). IfErr c.size.result (IsDenied g.B.Naming.files g.B.Naming.sizes g.B.Naming.name g.B.Naming.whole (λ e. e ≡ event.Size n) c.args.seat.now c.size.new.seat))
     (ap (λ (h : HandleSeen). h.number) c.handle.view_is)
     (event_denied g.B.Naming.files g.B.Naming.sizes g.B.Naming.name g.B.Naming.whole c.size.result (event.Size c.handle.inside.number) c.deref_mut.result.now c.size.new.self
-    c.args.seat.now c.size.new.seat c.size.ensures.denied)
+    c.args.seat.now c.size.new.seat tt c.size.ensures.denied)
 
 pub returns-clause-full : goal.returns-clause-full
 returns-clause-full g c own here =

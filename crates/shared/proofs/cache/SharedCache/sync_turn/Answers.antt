@@ -25,7 +25,7 @@ pub returns-in-Err-wait_or-clause-denied : goal.returns-in-Err-wait_or-clause-de
 returns-in-Err-wait_or-clause-denied g c =
     subst (IsDenied g.B.Naming.files g.B.Naming.sizes g.B.Naming.name g.B.Naming.whole (λ e. e ≡ event.SyncStep c.args.sync) c.args.seat.now c.sync_step.new.seat) (sym c.in-Err-wait_or.ensures.denied)
     (denied_event g.B.Naming.files g.B.Naming.sizes g.B.Naming.name g.B.Naming.whole (event.SyncStep c.args.sync) c.deref_mut.result.now c.sync_step.new.self c.args.seat.now c.sync_step.new.seat
-    c.in-Err.denied c.in-Err.ensures.denied)
+    c.in-Err.denied tt c.in-Err.ensures.denied)
 
 pub returns-in-Ok-wait_or-clause-goes_on : goal.returns-in-Ok-wait_or-clause-goes_on
 returns-in-Ok-wait_or-clause-goes_on g c =

@@ -9,7 +9,7 @@ use Rattle.shared.specs.Changes.{IsWholeIn, event_of, reply_of}
 use Rattle.shared.specs.Denials.{IsDenied}
 use Rattle.shared.specs.Own.{IsHelp, IsUndone}
 use Rattle.shared.proofs.Making.{call_help, call_settled, first_again, first_made, first_settled, goes_denied, makes_by, retries_by, retries_denied}
-use Rattle.shared.proofs.Owning.{change_plain, only_missed, only_settled, only_try}
+use Rattle.shared.proofs.Owning.{change_no_flush, change_plain, only_missed, only_settled, only_try}
 use Rattle.shared.proofs.Rooming.{final_denied, lost_denied, wants_pass}
 use Rattle.shared.proofs.Sparing.{change_asked}
 use Rattle.shared.proofs.Wanting.{short_missed, short_settled}
@@ -20,7 +20,7 @@ pub returns-in-Err-settle-clause-denied : goal.returns-in-Err-settle-clause-deni
 returns-in-Err-settle-clause-denied g c =
     call_settled g.B.Naming.files g.B.Naming.sizes g.B.Naming.name g.B.Naming.whole c.args.handle (event_of c.args.change c.args.handle c.args.bytes.now) c.deref_mut.result.now
     c.change_by.new.state c.args.seat.now c.change_by.new.seat c.settle.new.seat c.in-Err.denied
-    c.in-Err-settle.denied c.in-Err.ensures.denied c.settle.ensures.goes c.in-Err-settle.ensures.denied
+    c.in-Err-settle.denied (change_no_flush c.args.change c.args.handle c.args.bytes.now) c.in-Err.ensures.denied c.settle.ensures.goes c.in-Err-settle.ensures.denied
 
 pub returns-in-Wrote-clause-answer : goal.returns-in-Wrote-clause-answer
 returns-in-Wrote-clause-answer g c =

@@ -33,7 +33,7 @@ returns-in-Err-fill-clause-denied g c =
 pub returns-in-Err-clause-denied : goal.returns-in-Err-clause-denied
 returns-in-Err-clause-denied g c =
     call_first g.B.Naming.files g.B.Naming.sizes g.B.Naming.name g.B.Naming.whole c.args.handle (event.Read c.args.handle c.args.offset (length c.args.out.now)) c.deref_mut.result.now
-    c.read.new.self c.args.seat.now c.read.new.seat c.in-Err.denied c.in-Err.ensures.denied
+    c.read.new.self c.args.seat.now c.read.new.seat c.in-Err.denied tt c.in-Err.ensures.denied
 
 pub returns-in-Wait-clause-again : goal.returns-in-Wait-clause-again
 returns-in-Wait-clause-again g c =

@@ -1,8 +1,10 @@
-use Rattle.std.proofs.Common.{◌≡◌, ◌≤◌, ◌+◌, drop, vec_len}
+use Rattle.std.proofs.Common.{◌≡◌, ◌≤◌, ◌+◌, drop, true, vec_len}
 use Rattle.std.specs.Prelude.{All, vec_capacity}
+use Rattle.catalog.specs.Cataloged.{fits}
 use Rattle.shared.specs.Keeps.{IsDisk}
-use Rattle.shared.specs.ShardSeats.{AreOf}
-use Rattle.shared.proofs.ShardMaking.{AllFirst, Made}
+use Rattle.shared.specs.ShardParts.{AllFirst}
+use Rattle.shared.specs.ShardSeats.{AreCallers}
+use Rattle.shared.proofs.ShardMaking.{Made}
 use Rattle.shared.proofs.shards.parts.make_all.Given as goal
 
 abbrev pub invariant-loop-alloc : goal.invariant-loop-alloc
@@ -11,8 +13,9 @@ invariant-loop-alloc g l =
     × (l.left.items ≡ drop (vec_len l.made) l.fn.left.items)
     × (vec_len l.made + vec_len l.left ≤ vec_capacity l.made)
     × (vec_len l.seats ≡ vec_len l.fn.seats)
-    × All (AreOf l.made.items) l.seats.items
+    × AreCallers l.made.items l.seats.items
     × All (λ s. IsDisk l.geometry (g.D.BlockDevice.told s.device)) l.left.items
+    × All (λ s. fits l.geometry s.files ≡ true) l.left.items
 
 abbrev pub decreases-loop-alloc : goal.decreases-loop-alloc
 decreases-loop-alloc g l = vec_len l.left

@@ -1,7 +1,6 @@
-use Rattle.std.proofs.Common.{rules, arith, refl, sym, ap, ◌∙◌, subst, ◌++◌, ◌∷◌, [], ◌≡◌, ◌<◌, length, ◌+◌, option_to_list, slice_set, slice_index_or, take, Some}
-use Rattle.std.proofs.lemmas.Grind.{common_steps}
+use Rattle.std.proofs.Common.{rules, arith, refl, sym, ap, ◌∙◌, ◌++◌, ◌∷◌, [], ◌≡◌, ◌<◌, length, ◌+◌, slice_set, slice_index_or, take}
 use Rattle.shared.specs.ShardSeats.{no_seat, part}
-use Rattle.shared.proofs.ShardHalves.{front, front_all, front_step, half, half_all, half_step, last_is, next_is, rest_is}
+use Rattle.shared.proofs.ShardHalves.{front_all, front_step, half_all, half_step, last_is, next_is, rest_is}
 use Rattle.shared.proofs.shards.rows.take_last.Goals as goal
 
 pub loop-row-init : goal.loop-row-init

@@ -11,3 +11,7 @@ end_all-requires-clause-room g c =
     (λ k less. c.args.self.seated k (omega (arith, less, c.args.self.counted))) c.if-not-has_all.ensures.yes.0 in
     room_same c.in-Ok.ends g.B.ShardNaming.shards c.args.self.callers (vec_len c.args.seats) same
     (subst (λ n. IsRoomFor n c.args.self.callers c.in-Ok.ends) c.args.self.counted c.in-Ok.ensures)
+
+-- all seats came, so none is missing
+pub returns-in_default-clause-stranger : goal.returns-in_default-clause-stranger
+returns-in_default-clause-stranger g c = λ missing. absurd (missing c.if-not-has_all.ensures.yes.0 c.if-not-has_all.ensures.yes.1)

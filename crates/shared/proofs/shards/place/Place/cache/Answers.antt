@@ -1,13 +1,18 @@
-use Rattle.std.proofs.Common.{rules, arith, ◌∙◌, sym, subst, nat_lt, ◌≡◌, Some}
-use Rattle.std.specs.Prelude.{All}
-use Rattle.shared.proofs.ShardPlaces.{first_has, first_there}
+use Rattle.std.proofs.Common.{arith, ◌≡◌, ◌<◌, ◌≤◌, Some, length, vec_len}
+use Rattle.shared.proofs.ShardStaffing.{no_shard}
 use Rattle.shared.proofs.shards.place.Place.cache.Goals as goal
 
-pub returns-clause-there : goal.returns-clause-there
-returns-clause-there g c =
-    first_there (nat_lt g.row.K g.B.ShardNaming.shards) c.deref.result.now c.first.result (c.deref.ensures.len ∙ c.args.self.now.there) c.first.ensures.value
+pub unreachable-requires : goal.unreachable-requires
+unreachable-requires g c =
+    let past : g.B.ShardNaming.shards ≤ g.row.K =
+    no_shard g.row.K g.B.ShardNaming.shards (vec_len c.args.self.now.caches) c.args.self.now.there (omega (arith, c.deref.ensures.len, c.in_default.ensures.item.3)) in
+    omega (arith, past, c.requires)
 
-pub returns-clause-ringed : goal.returns-clause-ringed
-returns-clause-ringed g c =
-    first_has (λ x. (g.B.ShardNaming.names g.row.K).ring ≡ Some x.ring) c.deref.result.now c.first.result
-    (subst (All (λ x. (g.B.ShardNaming.names g.row.K).ring ≡ Some x.ring)) (sym c.deref.ensures.value) c.args.self.now.ringed) c.first.ensures.value
+pub returns : goal.returns
+returns g c =
+    let within : 0 < length c.args.self.now.caches.items = omega (arith, c.deref.ensures.len, c.in-Some.ensures.item.3.0, c.args.self.now.caches.ok.0) in
+    let ringed = c.args.self.now.ringed 0 c.in-Some.cache.now within in
+    let first = c.in-Some.ensures.item.3.1 c.in-Some.cache.now in
+    let value = c.deref.ensures.value in
+    let ring : (g.B.ShardNaming.names g.row.K).ring ≡ Some c.in-Some.cache.now.ring = cc in
+    record { ringed = ring }

@@ -1,0 +1,21 @@
+use Rattle.shared.specs.Keeps.{begun_with}
+use Rattle.std.specs.Prelude.{◌+◌, vec_len}
+use Rattle.bench_shards.proofs.one.time_one.Given as goal
+
+-- the parts that were just made
+abbrev pub ghosts-time_over-B-Naming : goal.ghosts-time_over-B-Naming
+ghosts-time_over-B-Naming g a = record {
+  name = a.parts.name;
+  table = a.parts.held.log.table;
+  board = a.parts.board;
+  sizes = a.parts.geometry;
+  files = begun_with a.parts.held.core.state;
+  seats = vec_len a.seats + 1;
+  whole = a.parts.held.log.room;
+  blocks = a.parts.deeds.blocks;
+  calls = a.parts.device.calls;
+}
+
+-- the deeds of their device
+abbrev pub ghosts-time_over-B-NamesDeeds : goal.ghosts-time_over-B-NamesDeeds
+ghosts-time_over-B-NamesDeeds g a = record { deeds = a.parts.deeds.table; told = a.parts.deeds.told }
