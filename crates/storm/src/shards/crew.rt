@@ -6,7 +6,7 @@ ghost use Rattle.shared.specs.ShardWorkers.{AreWorkers};
 ghost use Rattle.shared.specs.Workers.{seat_of};
 
 use crate::crew::Open;
-use crate::shards::member::{Member, first_of};
+use crate::shards::member::Member;
 use blockdev::BlockDevice;
 use shared::shards::cache::ShardedCache;
 use shared::shards::naming::ShardNaming;
@@ -146,7 +146,7 @@ impl<B: ShardNaming> Hand<B> {
     }
 }
 
-/// A crew of each shard, with the seats of the first of these members. None are answered where memory or a member is wanted.
+/// A crew of each shard, with the seats of the last of these members, who leave them. None are answered where memory or a member is wanted.
 pub fn crews_of<B: ShardNaming, D: BlockDevice>(
     alloc: Global,
     cache: &ShardedCache<B, D, FullTrail>,
@@ -186,7 +186,7 @@ fn crew_of<B: ShardNaming, D: BlockDevice>(
     })
 }
 
-/// One who works with the seats of the first of these members.
+/// One who works with the seats of the last of these members.
 fn hand_of<B: ShardNaming, D: BlockDevice>(
     cache: &ShardedCache<B, D, FullTrail>,
     own: &mut ShardWorker,
@@ -195,7 +195,7 @@ fn hand_of<B: ShardNaming, D: BlockDevice>(
     requires { (length own.old ≡ B.shards) × AreWorkers B.names own.old }
     ensures own { (length own.new ≡ B.shards) × AreWorkers B.names own.new }
 {
-    match cache.worker(own, first_of(members)?.seat) {
+    match cache.worker(own, members.pop()?.seat) {
         Ok(worker) => Some(Hand {
             worker,
             of: PhantomData,

@@ -48,11 +48,3 @@ pub fn seats_of<B: ShardNaming>(alloc: Global, members: Vec<Member<B>>) -> Optio
     }
     Some(seats)
 }
-
-/// The first of these members, who leaves them.
-pub fn first_of<B: ShardNaming>(members: &mut Vec<Member<B>>) -> Option<Member<B>> {
-    if members.is_empty() {
-        return None;
-    }
-    Some(members.remove(0))
-}

@@ -240,8 +240,7 @@ fn history<B: ShardNaming + Send + Sync, D: BlockDevice + Send, R: Threads + Wai
     }
 }
 
-/// Counts the refusals of the workers of all shards. Their seats have numbers past those of the callers, since crews have the first
-/// seats, and the first has the greatest number at each shard.
+/// Counts the refusals of the workers of all shards. Their seats have numbers past those of the callers, since crews have the last seats.
 fn count_all_workers<D: BlockDevice>(
     closed: &[Closed<D, FullTrail>],
     plan: Plan,
