@@ -17,7 +17,7 @@ pub const WORKERS: u64 = 3;
 
 /// Lets each worker go on.
 #[derive(Drop)]
-struct Open;
+pub struct Open;
 
 impl Gate for Open {
     ghost use Rattle.std.specs.Prelude.{⊤};

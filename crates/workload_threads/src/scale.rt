@@ -17,23 +17,36 @@ pub enum Scale {
     Small,
 }
 
-/// What is asked for: calls follow from the seed.
+/// What has the files: one cache, or one of shards.
+#[derive(Clone, Copy, PartialEq, Eq, Debug)]
+pub enum Store {
+    Shared,
+    Sharded,
+}
+
+/// What is asked for: calls follow from the scale and the seed.
 #[derive(Clone, Copy)]
 pub struct Plan {
+    pub store: Store,
     pub scale: Scale,
     pub seed: u32,
 }
 
-impl Scale {
-    /// The scale that the program's first argument names.
-    pub fn named(word: &str) -> Option<Scale> {
-        match word {
-            "threads" => Some(Scale::Whole),
-            "small" => Some(Scale::Small),
-            _ => None,
-        }
+impl Plan {
+    /// The plan that the program's first argument names, with this seed.
+    pub fn named(word: &str, seed: u32) -> Option<Plan> {
+        let (store, scale) = match word {
+            "threads" => (Store::Shared, Scale::Whole),
+            "small" => (Store::Shared, Scale::Small),
+            "shards" => (Store::Sharded, Scale::Whole),
+            "small-shards" => (Store::Sharded, Scale::Small),
+            _ => return None,
+        };
+        Some(Plan { store, scale, seed })
     }
+}
 
+impl Scale {
     /// How many calls a caller makes, after it has written its file.
     pub fn calls(self) -> u64 {
         match self {
@@ -69,6 +82,15 @@ impl Scale {
         match self {
             Scale::Whole => Geometry::new(PAGE, 2_048, 1_024, 8_192),
             Scale::Small => Geometry::new(PAGE, 96, 48, 1_024),
+        }
+    }
+
+    /// Of each of four shards: a quarter of the one cache's, or the least that a cache may have. The common file and an own one, which
+    /// stand in one shard, have fewer pages than that has blocks, also with records behind the own one's end.
+    pub fn shard_geometry(self) -> Result<Geometry, Refusal> {
+        match self {
+            Scale::Whole => Geometry::new(PAGE, 512, 256, 2_048),
+            Scale::Small => Geometry::new(PAGE, 48, 16, 256),
         }
     }
 }
