@@ -42,7 +42,7 @@ fn run_program<W: Wait + Threads + Sync>(rt: &HostRuntime, threads: &W) -> u8 {
     let Some(plan) = plan_asked(rt) else {
         let _ = writeln!(
             rt.stderr(),
-            "workload_threads: usage: workload_threads threads | small | shards | small-shards SEED"
+            "workload_threads: usage: workload_threads threads|small|shards|small-shards SEED"
         );
         return 2;
     };

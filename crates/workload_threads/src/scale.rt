@@ -85,8 +85,8 @@ impl Scale {
         }
     }
 
-    /// Of each of four shards: a quarter of the one cache's, or the least that a cache may have. The common file and an own one, which
-    /// stand in one shard, have fewer pages than that has blocks, also with records behind the own one's end.
+    /// Of each of four shards: a quarter of the one cache's, or the least that a cache may have. One shard has the common file and an own
+    /// one. These are fewer pages than it has blocks, also with the records that stand behind the own file's end until it is cut.
     pub fn shard_geometry(self) -> Result<Geometry, Refusal> {
         match self {
             Scale::Whole => Geometry::new(PAGE, 512, 256, 2_048),

@@ -31,7 +31,7 @@ impl<B: ShardNaming> Desk<B> {
     ) -> Result<Desk<B>, Refusal> {
         match open_both(rt, cache, &mut member, own, common) {
             Ok((own, common)) => Ok(Desk {
-                tally: opened(cache, &own, &common),
+                tally: tally_of(cache, &own, &common),
                 member,
                 own,
                 common,
@@ -157,7 +157,7 @@ impl<B: ShardNaming> Desk<B> {
 }
 
 /// What opening these two has answered.
-fn opened<B: ShardNaming>(cache: &Sharded<B>, own: &Opened<B>, common: &Opened<B>) -> Tally {
+fn tally_of<B: ShardNaming>(cache: &Sharded<B>, own: &Opened<B>, common: &Opened<B>) -> Tally {
     let mut tally = Tally::NONE;
     for file in [own, common] {
         tally.add_both(file.file(cache).0, file.cursor());
