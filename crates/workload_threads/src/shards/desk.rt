@@ -159,9 +159,8 @@ impl<B: ShardNaming> Desk<B> {
 /// What opening these two has answered.
 fn tally_of<B: ShardNaming>(cache: &Sharded<B>, own: &Opened<B>, common: &Opened<B>) -> Tally {
     let mut tally = Tally::NONE;
-    for file in [own, common] {
-        tally.add_both(file.file(cache).0, file.cursor());
-    }
+    tally.add_both(own.file(cache).0, own.cursor());
+    tally.add_both(common.file(cache).0, common.cursor());
     tally
 }
 
