@@ -14,10 +14,11 @@ use storm::{BLOCKS, Weather, storm_over};
 use storm_text::{Findings, Keeping, Options, Refused, tell};
 use textline::Printer;
 
-/// A device that puts the bytes of an odd block into the block before it. It tells no contents.
+/// A device that puts the bytes of an odd block into the block before it, if it crosses them. It tells no contents.
 #[derive(Drop)]
-struct Crossed {
-    device: MemDevice,
+pub struct Crossed {
+    pub device: MemDevice,
+    pub crosses: bool,
 }
 
 impl Model for Crossed {
@@ -57,7 +58,12 @@ impl BlockDevice for Crossed {
     }
 
     fn write(&mut self, block: BlockNo, bytes: &[u8]) -> Result<(), ErrCode> {
-        self.device.write(BlockNo(block.0 - block.0 % 2), bytes)
+        let place = if self.crosses {
+            BlockNo(block.0 - block.0 % 2)
+        } else {
+            block
+        };
+        self.device.write(place, bytes)
     }
 
     fn flush(&mut self) -> Result<(), ErrCode> {
@@ -72,6 +78,7 @@ fn storm_over_crossed<R: Threads + Wait + Sync>(
 ) -> Option<(Keeping, Refused)> {
     let device = Crossed {
         device: MemDevice::new(alloc, 64, BLOCKS).ok()?,
+        crosses: true,
     };
     let options = Options {
         threads: 4,

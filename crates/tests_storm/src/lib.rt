@@ -8,4 +8,6 @@ mod crowd_tests;
 #[cfg(test)]
 mod device_tests;
 #[cfg(test)]
+mod shard_tests;
+#[cfg(test)]
 mod tests;

@@ -32,12 +32,44 @@ const FAILED: u64 = 14;
 
 /// What a storm of these words is to give.
 #[derive(Clone, Copy)]
-struct Row<'a> {
-    words: &'a [&'a str],
-    faults: u64,
-    output: &'a str,
-    message: &'a str,
-    status: u8,
+pub struct Row<'a> {
+    pub words: &'a [&'a str],
+    pub faults: u64,
+    pub output: &'a str,
+    pub message: &'a str,
+    pub status: u8,
+}
+
+impl<'a> Row<'a> {
+    /// The row of a storm that replays.
+    pub fn replayed(words: &'a [&'a str], faults: u64, output: &'a str) -> Row<'a> {
+        Row {
+            words,
+            faults,
+            output,
+            message: "",
+            status: 0,
+        }
+    }
+
+    /// The row of words that ask for no storm.
+    pub fn refused(words: &'a [&'a str]) -> Row<'a> {
+        Row {
+            words,
+            faults: 0,
+            output: "",
+            message: USAGE,
+            status: 2,
+        }
+    }
+
+    pub fn weather(&self) -> Weather {
+        Weather {
+            seed: 1,
+            faults: self.faults,
+            blocks: BLOCKS,
+        }
+    }
 }
 
 /// The output of a storm, whose refusals are `some` in the line of them if there are and may be.
@@ -76,19 +108,22 @@ fn check<R: Abort + Threads + Wait + Files<File = File> + Sync>(
 ) -> Result<(), Fail> {
     let mut out = Printer::new(alloc, Vec::new(alloc));
     let mut message = Vec::new(alloc);
-    let weather = Weather {
-        seed: 1,
-        faults: row.faults,
-        blocks: BLOCKS,
-    };
-    let status = run_storm(rt, alloc, row.words, weather, &mut out, &mut message);
-    let output = with_due(
-        alloc,
-        std::str::from_utf8(out.writer.as_slice())?,
-        row.faults,
-    )?;
+    let status = run_storm(rt, alloc, row.words, row.weather(), &mut out, &mut message);
+    check_told(rt, alloc, row, &out.writer, &message, status)
+}
+
+/// Looks at what a storm printed, what it said on standard error, and its status.
+pub fn check_told<R: Abort>(
+    rt: &R,
+    alloc: Global,
+    row: Row<'_>,
+    printed: &[u8],
+    message: &[u8],
+    status: u8,
+) -> Result<(), Fail> {
+    let output = with_due(alloc, std::str::from_utf8(printed)?, row.faults)?;
     assert_eq!(rt; output.as_str(), row.output);
-    assert_eq!(rt; std::str::from_utf8(message.as_slice())?, row.message);
+    assert_eq!(rt; std::str::from_utf8(message)?, row.message);
     assert_eq!(rt; status, row.status);
     Ok(())
 }
@@ -101,14 +136,7 @@ fn check_replays<R: Abort + Threads + Wait + Files<File = File> + Sync>(
     faults: u64,
     output: &str,
 ) -> Result<(), Fail> {
-    let row = Row {
-        words,
-        faults,
-        output,
-        message: "",
-        status: 0,
-    };
-    check(rt, alloc, row)
+    check(rt, alloc, Row::replayed(words, faults, output))
 }
 
 #[test]
@@ -152,14 +180,7 @@ fn words_that_ask_for_no_storm_are_refused(rt: HostRuntime) -> Result<(), Fail> 
         &["1", "1", "a", "b"],
     ];
     for words in rows {
-        let row = Row {
-            words,
-            faults: 0,
-            output: "",
-            message: USAGE,
-            status: 2,
-        };
-        check(&rt, rt.alloc(), row)?;
+        check(&rt, rt.alloc(), Row::refused(words))?;
     }
     Ok(())
 }
