@@ -7,7 +7,7 @@ ghost use Rattle.shared.specs.ShardSeats.{AreSeated};
 
 use crate::byte_rows::{goes_well_in_each, has_numbers, is_seen};
 use crate::caller::{Caller, Tested};
-use crate::close_rows::{Own, ends_well};
+use crate::close_rows::{Own, closes_with_all_seats_alone, ends_well};
 use crate::fault_rows::{tells_at_a_sync, tells_of_a_turn};
 use crate::gated_trail::GatedTrail;
 use crate::sources::{FIRST, Plan, SHARDS, geometry, sources};
@@ -29,6 +29,7 @@ use std::thread::Threads;
 
 #[derive(Clone, Copy)]
 enum Row {
+    Closes,
     GoesWell,
     HasNumbers,
     IsSeen,
@@ -78,8 +79,10 @@ fn runs<'a, B: ShardNaming + Send + Sync, R: Threads + Wait + Sync>(
         return false;
     };
     let mut own = Own::of(worker);
-    if matches!(row, Row::Stands) {
-        return stands(rt, alloc, cache, own, seats);
+    match row {
+        Row::Closes => return closes_with_all_seats_alone(rt, alloc, cache, own, seats),
+        Row::Stands => return stands(rt, alloc, cache, own, seats),
+        _ => {}
     }
     let is_so = plays(rt, &cache, turnstile, &mut own, &mut seats, row);
     ends_well(rt, alloc, cache, own, seats) && is_so
@@ -199,6 +202,12 @@ fn two_threads_work_in_one_shard(rt: HostRuntime) -> Result<(), Fail> {
 #[test]
 fn workers_keep_up_in_two_shards(rt: HostRuntime) -> Result<(), Fail> {
     assert!(&rt; over_a_cache(&rt, rt.alloc(), Row::KeepUp)?);
+    Ok(())
+}
+
+#[test]
+fn a_cache_closes_with_all_its_seats(rt: HostRuntime) -> Result<(), Fail> {
+    assert!(&rt; over_a_cache(&rt, rt.alloc(), Row::Closes)?);
     Ok(())
 }
 
