@@ -38,7 +38,7 @@ pub(crate) fn tells_at_a_sync<B: ShardNaming, R: Wait>(
 }
 
 /// What the handle is told.
-fn polls<B: ShardNaming>(
+pub(crate) fn polls<B: ShardNaming>(
     cache: &Tested<'_, B>,
     file: &mut Opened<B>,
 ) -> Result<Option<ErrCode>, Refusal> {

@@ -16,6 +16,8 @@ mod config_rows;
 #[cfg(test)]
 mod fault_rows;
 #[cfg(test)]
+mod foreign_rows;
+#[cfg(test)]
 mod gated_trail;
 #[cfg(test)]
 mod rows;
