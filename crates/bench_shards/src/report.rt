@@ -15,8 +15,8 @@ use std::sync::Wait;
 use std::thread::Threads;
 use std::time::Clock;
 
-/// How many rounds a row has.
-const ROUNDS: u64 = 15;
+/// How many rounds a row has, if nothing else is asked for.
+pub const ROUNDS: u64 = 15;
 
 /// Pages of all files of a row.
 const PAGES: u64 = 16_384;
@@ -146,15 +146,21 @@ fn run_each<R: Threads + Wait + Clock + Sync>(
     Ok(())
 }
 
-/// Times all rows by turns, and prints the times.
+/// Times all rows by turns, and prints the times. Each round that is done is told.
 pub fn print_times<W: Wait + Threads + Clock + Sync>(
     rt: &HostRuntime,
     threads: &W,
+    rounds: u64,
 ) -> Result<(), Fault> {
     let numbers = numbers_of(rt.alloc(), Size::Small.reads())?;
     let mut entries = entries_of(rt.alloc())?;
-    for _ in 0..ROUNDS {
+    for round in 0..rounds {
         run_each(threads, rt.alloc(), &mut entries, PAGES, &numbers)?;
+        writeln!(
+            rt.stderr(),
+            "bench_shards: {} of {rounds} rounds are done",
+            round + 1
+        )?;
     }
     print_each(rt, &entries)
 }

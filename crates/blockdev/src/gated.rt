@@ -1,4 +1,4 @@
-//! A device whose reads and writes pass a gate, so that a test can hold one of them.
+//! A device whose reads and writes pass a gate, so that a test can hold one of them, and a gate that holds none.
 
 ghost use Rattle.std.specs.Prelude.{◌≡◌, ◌<◌, ℕ, length};
 ghost use Rattle.blockdev.specs.Device.{Reads, Writes};
@@ -14,6 +14,18 @@ pub trait Gate: Drop {
     /// Comes back once the call with this number may go on.
     fn enter(&self, number: u64)
         ensures { Self.passed self.now number };
+}
+
+/// A gate that lets each call go on at once, for workers that nobody holds.
+#[derive(Drop)]
+pub struct OpenGate;
+
+impl Gate for OpenGate {
+    ghost use Rattle.std.specs.Prelude.{⊤};
+
+    ghost passed = { λ _ _. ⊤ };
+
+    fn enter(&self, _number: u64) {}
 }
 
 /// Any device, behind a gate. The gate is told how many calls were made before this one.

@@ -10,7 +10,7 @@
 //!
 //! `device` has the trait, `fault` what goes wrong, `blocks` the bytes in memory, `memory` a device that never fails,
 //! `script` one that fails when it is told to, `file` one over a file, `raw` what it asks of its file, `mem_file` a file in
-//! memory, `gated` any device behind a gate, `buffer` the bytes of one page on their way, `job` a request's call, and `watched` a
+//! memory, `gated` any device behind a gate, and the gate that is open, `buffer` the bytes of one page on their way, `job` a request's call, and `watched` a
 //! device with a note whether anything was written to it since it was last flushed well.
 //!
 //! Floor: ground.
@@ -32,7 +32,7 @@ pub use buffer::Buffer;
 pub use device::BlockDevice;
 pub use fault::{Fault, FaultEffect};
 pub use file::FileDevice;
-pub use gated::{Gate, GatedDevice};
+pub use gated::{Gate, GatedDevice, OpenGate};
 pub use job::{Finished, FinishedParts, Job, perform};
 pub use mem_file::MemFile;
 pub use memory::MemDevice;

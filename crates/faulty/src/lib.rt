@@ -2,7 +2,8 @@
 //! Devices some of whose calls fail, for storms, tortures and tests. Which calls fail is tested, not proved: what is proved of them is
 //! what is proved of every device.
 //!
-//! `device` has one that fails by turns, `failing` one that fails at one call or by chance and tells which call did (`log`).
+//! `device` has one that fails by turns, `failing` one that fails at one call or by chance and tells which call did (`log`). `choice`
+//! has which calls these are.
 //!
 //! Floor: outside.
 

@@ -3,7 +3,7 @@
 //! image.
 //!
 //! Byte i of the part is byte first + i of the file behind. All other bytes of that file stay as they are (`Outside` of
-//! `specs/Parts.antt`), and parts that share no byte leave each other's (`parts_are_apart`). `open_part` opens a file of the system
+//! `specs/Parts.antt`), and parts that share no byte leave each other's (`apart`). `part` has a part, and `opened`'s `open_part` opens a file of the system
 //! anew for each part, so its parts are used at the same time. What one of them writes, no clause tells of the others: a file of the
 //! system tells no bytes.
 //!

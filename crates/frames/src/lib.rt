@@ -6,7 +6,7 @@
 //! takes none, and all but `age` and `scan` take constant time: but after three times as many comings to the head of a
 //! list as there are frames, the one that comes waits for a pass over four turns a frame.
 //!
-//! `frames` has the table, `lists` the two lists over `ring`'s links, `order` the oldest frame of each that waits, `bit_set` the
+//! `frames` has the table, `lists` the two lists over `ring`'s rows of `link`s, `order` the oldest frame of each that waits, `bit_set` the
 //! least number of a set over `bits`, and `rows` the bytes.
 //!
 //! Floor: tables.

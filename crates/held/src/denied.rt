@@ -6,7 +6,8 @@ ghost use Rattle.std.specs.Prelude.{◌≡◌, Err, IfErr, IfOk, None, Ok, Some,
 use crate::log::Slip;
 use pc_types::Refusal;
 
-/// Why a call was not made, and the slip of the entry that refused it. Without a slip no event was made.
+/// Why a call was not made, and the slip of the entry that refused it. Without a slip no entry tells of the refusal: memory or the trail is
+/// full, say, or the seat is of another cache. Events that the call had made by then stand.
 #[derive(Clone, Copy, Debug)]
 pub struct Denied {
     pub refusal: Refusal,

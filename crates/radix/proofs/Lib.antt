@@ -30,3 +30,4 @@ pub mod CutLemmas
 pub mod ExpandLemmas
 pub mod TrailLemmas
 pub mod WrittenLemmas
+pub mod TwigLemmas

@@ -208,6 +208,10 @@ pub record IsNextLeaf (s : Slab Node) (mark from place value : ℕ) : Type 0 whe
 pub record IsAlone (s : Slab Node) (place : ℕ) : Type 0 where
   pub each : (first : ℕ) → place % 64 < 63 → entry_at s 0 (place + 1) ≢ Some (entry.Sibling first)
 
+-- the next slot is no further one of an entry that begins at this slot of the lowest level
+pub record IsSingle (s : Slab Node) (place : ℕ) : Type 0 where
+  pub ends : place % 64 < 63 → entry_at s 0 (place + 1) ≢ Some (entry.Sibling (place % 64))
+
 -- no entry of one index with the mark is at `from` or after it in its node of the lowest level
 pub record HasNoneBeside (s : Slab Node) (mark from : ℕ) : Type 0 where
   pub each : (at : ℕ) → from ≤ at → at / 64 ≡ from / 64 → mark_at mark s 0 at ≢ 1

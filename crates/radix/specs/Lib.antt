@@ -4,3 +4,4 @@ pub mod WordLaw
 pub mod Entries
 pub mod Tree
 pub mod Parts
+pub mod Twigs

@@ -204,6 +204,11 @@ pub record IsSound (s : Slab Node) (head : ℕ) (but : Option ℕ) : Type 0 wher
   pub exact : (mark : ℕ) → mark < 4 → MarkIsExactBut s mark None
   pub filled : NoneEmptyBut s but
 
+-- the same, under some head
+pub record IsRooted (s : Slab Node) : Type 0 where
+  pub head : ℕ
+  pub sound : IsSound s head None
+
 -- the node under a key has an empty slot where the index would go down
 pub record HasGap (s : Slab Node) (key index : ℕ) : Type 0 where
   pub node : Node

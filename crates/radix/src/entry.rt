@@ -1,6 +1,7 @@
 //! What the crate above speaks of: entries, where they stand, and where a walk ended.
 ghost use Rattle.std.specs.Prelude.{◌≡◌, ℕ};
 
+use crate::node::Node;
 use std::marker::Model;
 
 /// What stands at a slot.
@@ -79,4 +80,32 @@ pub struct Ahead {
     pub value: u64,
     /// As that of `Near`.
     pub is_alone: bool,
+}
+
+/// A node, and those of its slots with a mark that are left of a walk, one bit each.
+#[derive(Clone, Copy)]
+pub struct Rest<'a> {
+    pub(crate) node: &'a Node,
+    pub(crate) bits: u64,
+}
+
+/// The node of the lowest level that a walk over the entries with a mark has come to, and the one above it. It borrows both, and
+/// what is left of the one above does not wait for the node below. It is good as long as the tree does not change.
+#[derive(Clone, Copy)]
+pub struct Twig<'a> {
+    pub(crate) key: usize,
+    pub(crate) leaf: Rest<'a>,
+    // Nothing is left of it where the node is the head.
+    pub(crate) above: Rest<'a>,
+    // The node's first slot.
+    pub(crate) base: u64,
+    pub(crate) mark: usize,
+}
+
+/// An entry of one index, and the twig of a walk that has come to it.
+#[derive(Clone, Copy)]
+pub struct Onward<'a> {
+    pub twig: Twig<'a>,
+    pub place: u64,
+    pub value: u64,
 }

@@ -6,8 +6,8 @@
 //!
 //! `nodes` is the tree as its caller sees it, and `entry` what it speaks of. `tree` walks, `growth` makes nodes and
 //! entries, `parts` makes several entries of one, `removal` takes them away, `marks` and `next` keep the bits and search
-//! by them. `node`, `slot` and `bitmap` are the layout. The words of the contracts are in `specs/Entries.antt` and
-//! `specs/Parts.antt`; `specs/Tree.antt` is for the proofs alone.
+//! by them, and `twig` goes from entry to entry. `node`, `slot` and `bitmap` are the layout. The words of the contracts are
+//! in `specs/Entries.antt`, `specs/Parts.antt` and `specs/Twigs.antt`; `specs/Tree.antt` is for the proofs alone.
 //!
 //! Floor: tables.
 
@@ -22,7 +22,8 @@ mod parts;
 mod removal;
 mod slot;
 mod tree;
+mod twig;
 
-pub use entry::{Ahead, Cursor, Entry, Near, Position, Walk};
+pub use entry::{Ahead, Cursor, Entry, Near, Onward, Position, Twig, Walk};
 pub use nodes::Nodes;
 pub use tree::{first_at, place_at};

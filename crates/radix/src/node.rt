@@ -29,7 +29,7 @@ pub struct Node {
 
 impl Node {
     ghost use Rattle.radix.specs.Entries.{bits, slot};
-    ghost use Rattle.radix.specs.Tree.{blank, node_over};
+    ghost use Rattle.radix.specs.Tree.{IsLeafSlot, blank, node_over};
 
     /// What the slot at an offset has.
     #[inline]
@@ -38,6 +38,16 @@ impl Node {
         ensures { result ≡ slot self.now offset }
     {
         self.slots[offset].slot()
+    }
+
+    /// The value of the entry that begins at a slot. It asks the slot for nothing else.
+    #[inline]
+    pub(crate) fn value(&self, offset: usize) -> u64
+        requires within { offset < 64 }
+        requires leaf { IsLeafSlot (slot self.now offset) }
+        ensures { slot self.now offset ≡ Slot.Leaf result }
+    {
+        self.slots[offset].value()
     }
 
     /// Whether the slot at an offset is a further one of the entry that begins at `first`.
@@ -58,6 +68,15 @@ impl Node {
         ensures { result ≡ true → offset < 63 → bit_at (bits self.now 3) (offset + 1) ≡ 1 }
     {
         offset == 63 || has_bit(self.marks[ENTRY], offset + 1)
+    }
+
+    /// Whether the next slot is no further one of an entry that begins at a slot.
+    #[inline(always)]
+    pub(crate) fn is_single(&self, offset: u32) -> bool
+        requires { offset < 64 }
+        ensures { result ≡ true → offset < 63 → slot self.now (offset + 1) ≢ Slot.Sibling offset }
+    {
+        offset == 63 || !self.follows(offset as usize + 1, offset as u64)
     }
 
     /// The node below a slot. A node of the lowest level has none, and there the slot is not read: it lies in another cache

@@ -3,11 +3,12 @@ ghost use Rattle.std.specs.Prelude.{◌≡◌, ◌≢◌, ℕ, ◌+◌, ◌-◌,
 ghost use Rattle.pc_types.specs.declared.refusal.Refusal.{Refusal};
 ghost use Rattle.radix.specs.declared.entry.Entry.{Entry};
 ghost use Rattle.radix.specs.Parts.{Parts, HasNodeRoom};
-ghost use Rattle.radix.specs.Entries.{entry_at, mark_at, node_count, StandsAt, IsBare, IsLeaf, IsRun, IsClear, IsFree, HasNoMark, HasPathRoom, SameEntries, PutsEntry, PutsBit, PutsRun, ClearsRun, IsWalked, HasNoEntry, IsNext, HasNoNext, IsNextHeld, HasNoHeld, IsNextEntry, HasNoNextEntry, IsNextLeaf, HasNoneBeside, IsAlone, IsNextEntryLeaf, HasNoEntryBeside, IsNextAt, IsNextEntryAt, IsMarkedAt, HasNoMarkedAt, HasMarked, HasNoMarked, HasMarkedUnder, HasNoMarkedUnder};
+ghost use Rattle.radix.specs.Entries.{entry_at, mark_at, node_count, StandsAt, IsBare, IsLeaf, IsRun, IsClear, IsFree, HasNoMark, HasPathRoom, SameEntries, PutsEntry, PutsBit, PutsRun, ClearsRun, IsWalked, HasNoEntry, IsNext, HasNoNext, IsNextHeld, HasNoHeld, IsNextEntry, HasNoNextEntry, IsNextLeaf, HasNoneBeside, IsAlone, IsNextEntryLeaf, HasNoEntryBeside, IsNextAt, IsNextEntryAt, IsSingle, IsMarkedAt, HasNoMarkedAt, HasMarked, HasNoMarked, HasMarkedUnder, HasNoMarkedUnder};
+ghost use Rattle.radix.specs.Twigs.{IsTwig, mark_of};
 
-use crate::entry::{Ahead, Cursor, Entry, Near, Position, Walk};
+use crate::entry::{Ahead, Cursor, Entry, Near, Onward, Position, Twig, Walk};
 use crate::node::{ENTRY, Node};
-use crate::{growth, marks, next, parts, removal, tree};
+use crate::{growth, marks, next, parts, removal, tree, twig};
 use pc_types::Refusal;
 use slab::Slab;
 use std::alloc::Global;
@@ -583,5 +584,57 @@ impl Nodes {
             unreachable!()
         };
         next::above(&self.slab, head, cursor.key(), level, prefix)
+    }
+    /// The twig of a slot of the lowest level, for a walk over the entries after it.
+    pub fn entry_twig(&self, cursor: Cursor, place: u64) -> Twig<'_>
+        requires { StandsAt self.now cursor 0 (place / 64) }
+        ensures on { IsTwig self.now (place + 1) result }
+        ensures mark { mark_of result ≡ 3 }
+    {
+        let Some(head) = self.head else {
+            unreachable!()
+        };
+        twig::twig_at(&self.slab, head, cursor.key(), place, ENTRY)
+    }
+
+    /// As `entry_twig`, of the entries with a mark.
+    pub fn marked_twig(&self, cursor: Cursor, place: u64, mark: usize) -> Twig<'_>
+        requires stands { StandsAt self.now cursor 0 (place / 64) }
+        requires mark { mark < 3 }
+        ensures on { IsTwig self.now (place + 1) result }
+        ensures mark { mark_of result ≡ mark }
+    {
+        let Some(head) = self.head else {
+            unreachable!()
+        };
+        twig::twig_at(&self.slab, head, cursor.key(), place, mark)
+    }
+
+    /// The next entry of a walk, where it has one index and is in the twig's node, or in a later one below the node above that. A
+    /// step within the node reads that alone. Where this answers none, the entry may be elsewhere or have more indexes.
+    #[inline(always)]
+    pub fn next_on<'a>(&'a self, twig: Twig<'a>, from: u64) -> Option<Onward<'a>>
+        requires { IsTwig self.now from twig }
+        ensures next { IfSome result (λ r. IsNextAt self.now (mark_of twig.entry) from r.place r.value) }
+        ensures entry { mark_of twig.entry ≡ 3 → IfSome result (λ r. IsNextEntryAt self.now from r.place r.value) }
+        ensures single { IfSome result (λ r. IsSingle self.now r.place) }
+        ensures twig { IfSome result (λ r. IsTwig self.now (r.place + 1) r.twig) }
+        ensures mark { IfSome result (λ r. mark_of r.twig ≡ mark_of twig.entry) }
+    {
+        twig::next_on(&self.slab, twig, from)
+    }
+
+    /// The slot before the index that a walk goes on at.
+    pub fn slot_before(&self, twig: Twig<'_>, from: u64) -> Position
+        requires { IsTwig self.now from twig }
+        ensures stands { StandsAt self.now result.cursor 0 (result.place / 64) }
+        ensures level { result.level ≡ 0 }
+        ensures after { from ≡ result.place + 1 }
+    {
+        Position {
+            cursor: Cursor::at(twig.key),
+            level: 0,
+            place: from - 1,
+        }
     }
 }

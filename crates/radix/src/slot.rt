@@ -37,6 +37,8 @@ impl Model for Word {
 }
 
 impl Word {
+    ghost use Rattle.radix.specs.Tree.{IsLeafSlot};
+
     #[inline]
     pub fn slot(self) -> Slot
         ensures { result ≡ self }
@@ -88,6 +90,15 @@ impl Word {
         Word {
             word: offset * 4 + 4,
         }
+    }
+
+    /// The value of a leaf.
+    #[inline]
+    pub fn value(self) -> u64
+        requires { IsLeafSlot self }
+        ensures { self ≡ Slot.Leaf result }
+    {
+        self.word / 2
     }
 
     /// Whether this is a further slot of the entry that begins at an offset. It is one comparison, so that no jump goes by

@@ -19,14 +19,14 @@ use Rattle.held.specs.declared.log.Slip.{Slip}
 use Rattle.held.specs.Entered.{Made}
 use Rattle.held.specs.Shown.{HeldSeen, SeatSeen}
 use Rattle.held.specs.declared.denied.Denied.{Denied}
-use Rattle.shared.specs.Polls.{Hears, IsLevelled, Polled}
+use Rattle.shared.specs.Polls.{Hears, HearsJust, IsLevelled, Polled}
 use Rattle.shared.specs.Synced.{Reports}
 
-pub hears_by : (files : Catalog) (sizes : Sizes) (name : ℕ) (e : Event) (r : Reply) (old new held : HeldSeen) (before after : SeatSeen)
+pub just_by : (files : Catalog) (sizes : Sizes) (name : ℕ) (e : Event) (r : Reply) (old new held : HeldSeen) (before after : SeatSeen)
     (slip : Slip) (p : PassSeen) → Made e r old new before after slip → held ≡ new
     → After files sizes name held.log.history held.core.state → length p.known ≡ (file_at held.core.state p.file).failures
-    → Hears files sizes name slip after p
-hears_by files sizes name e r old new held before after slip p m same legal known =
+    → HearsJust files sizes name slip after p
+just_by files sizes name e r old new held before after slip p m same legal known =
     let history : length held.log.history ≡ length old.log.history + 1 =
     ap (λ (h : HeldSeen). length h.log.history) same ∙ ap length m.entered.history
     ∙ length_push old.log.history (entry_of before.number e r) in
@@ -36,8 +36,16 @@ hears_by files sizes name e r old new held before after slip p m same legal know
     record {
       state = held.core.state;
       leaves = subst (λ l. After files sizes name l held.core.state) (sym there) legal;
-      known = omega (arith, known);
+      known = known;
     }
+
+pub hears_by : (files : Catalog) (sizes : Sizes) (name : ℕ) (e : Event) (r : Reply) (old new held : HeldSeen) (before after : SeatSeen)
+    (slip : Slip) (p : PassSeen) → Made e r old new before after slip → held ≡ new
+    → After files sizes name held.log.history held.core.state → length p.known ≡ (file_at held.core.state p.file).failures
+    → Hears files sizes name slip after p
+hears_by files sizes name e r old new held before after slip p m same legal known =
+    let just = just_by files sizes name e r old new held before after slip p m same legal known in
+    record { state = just.state; leaves = just.leaves; known = omega (arith, just.known) }
 
 hears_on : (files : Catalog) (sizes : Sizes) (name : ℕ) (slip : Slip) (seat : SeatSeen) (p q : PassSeen) → q.file ≡ p.file
     → IsPrefix p.known q.known → Hears files sizes name slip seat p → Hears files sizes name slip seat q
@@ -89,9 +97,9 @@ level_new old new file p q same of knew is knows =
     knows ∙ ap (recorded_of new.all) of ∙ ap (λ (r : RecorderSeen). recorded_of r.all file) same ∙ sym knew in
     is ∙ ap (λ (l : List Recording). record p { known = l }) known
 
-pub hears_named : (files : Catalog) (sizes : Sizes) (name called : ℕ) (slip : Slip) (seat : SeatSeen) (p : PassSeen) → called ≡ name
-    → Hears files sizes name slip seat p → Hears files sizes called slip seat p
-hears_named files sizes name called slip seat p is h = subst (λ n. Hears files sizes n slip seat p) (sym is) h
+pub just_named : (files : Catalog) (sizes : Sizes) (name called : ℕ) (slip : Slip) (seat : SeatSeen) (p : PassSeen) → called ≡ name
+    → HearsJust files sizes name slip seat p → HearsJust files sizes called slip seat p
+just_named files sizes name called slip seat p is h = subst (λ n. HearsJust files sizes n slip seat p) (sym is) h
 
 -- what an fsync tells knows what its sync heard
 pub hears_told : (result : Result Slip Denied) (files : Catalog) (sizes : Sizes) (name : ℕ) (at : Slip) (seat : SeatSeen) (mid new : PassSeen)

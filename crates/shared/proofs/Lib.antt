@@ -28,3 +28,4 @@ pub mod ShardFroms
 pub mod ShardEnding
 pub mod ShardStaffing
 pub mod ShardWorking
+pub mod Numbering

@@ -8,6 +8,7 @@ pub mod Polls
 pub mod Changes
 pub mod Seeks
 pub mod Workers
+pub mod Turns
 pub mod Synced
 pub mod Settled
 pub mod ShardCalls

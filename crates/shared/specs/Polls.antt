@@ -40,3 +40,9 @@ pub record Hears (files : Catalog) (sizes : Sizes) (name : ℕ) (slip : Slip) (s
   pub state : State
   pub leaves : After files sizes name (take (slip.place + 1) seat.list) state
   pub known : (file_at state pass.file).failures ≤ length pass.known
+
+-- these are known, and no more
+pub record HearsJust (files : Catalog) (sizes : Sizes) (name : ℕ) (slip : Slip) (seat : SeatSeen) (pass : PassSeen) : Type 0 where
+  pub state : State
+  pub leaves : After files sizes name (take (slip.place + 1) seat.list) state
+  pub known : length pass.known ≡ (file_at state pass.file).failures

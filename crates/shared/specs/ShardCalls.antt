@@ -1,5 +1,5 @@
 -- What a call makes in a shard, of the caller's seat there, where that is of the shard's cache: what the call of `SharedCache` says.
-use Rattle.std.specs.Prelude.{◌≡◌, ◌≢◌, ◌⊎◌, ◌+◌, ◌*◌, ◌-◌, ◌^◌, ◌≤◌, ℕ, Bool, List, Option, Result, Err, None, Some, IfErr, IfOk, IsOkUnless, drop, length, min, take}
+use Rattle.std.specs.Prelude.{◌≡◌, ◌≢◌, ◌⊎◌, ◌+◌, ◌*◌, ◌-◌, ◌^◌, ◌<◌, ◌≤◌, ℕ, Bool, List, Option, Result, Err, None, Some, IfErr, IfOk, IsOkUnless, drop, length, min, take}
 use Rattle.cachecore.specs.Standing.{Tells}
 use Rattle.cursor.specs.declared.seek.Seek.{Seek}
 use Rattle.held.specs.Called.{Goes, Once, Only}
@@ -19,7 +19,7 @@ use Rattle.shared.specs.Called.{Makes, OwnFirst}
 use Rattle.shared.specs.Changes.{cursor_after, write_event}
 use Rattle.shared.specs.Denials.{IsDenied, IsFullIfNoSlip, MadeOne}
 use Rattle.shared.specs.Own.{IsCallOf, IsTry, count_in}
-use Rattle.shared.specs.Polls.{Hears, IsSampled, Polled}
+use Rattle.shared.specs.Polls.{Hears, HearsJust, IsSampled, Polled}
 use Rattle.shared.specs.Rooms.{IsFinal, IsLost, IsShortFor}
 use Rattle.shared.specs.Seeks.{Seeks, place_after}
 use Rattle.shared.specs.Seen.{HandleSeen}
@@ -42,6 +42,7 @@ pub record Creates (n : CacheNames) (result : Result (FileId × Slip) Denied) (b
   pub goes : Goes before after
   pub only : Only (λ e. e.event ≡ event.Create) before after
   pub answer : IfOk result (λ r. Makes before after r.1 event.Create (reply.File r.0))
+  pub few : IfOk result (λ r. r.0.0 < 64)
   pub one : IfOk result (λ r. MadeOne (Some r.1) before after)
   pub refused_once : IfErr result (λ d. MadeOne d.slip before after)
   pub denied : IfErr result (IsDenied n.files n.sizes n.name n.whole (λ e. e ≡ event.Create) before after)
@@ -57,7 +58,7 @@ pub record Opens (n : CacheNames) (file : FileId) (append : Bool) (result : Resu
   pub refused_once : IfErr result (λ d. MadeOne d.slip before after)
   pub handle : IfOk result (λ r. (r.0.cache ≡ n.name) × (r.0.file ≡ file) × (r.0.pass.board ≡ n.board))
   pub begins : IfOk result (λ r. (r.0.cursor ≡ 0) × (r.0.append ≡ append))
-  pub hears : IfOk result (λ r. Hears n.files n.sizes n.name r.1 after r.0.pass)
+  pub hears : IfOk result (λ r. HearsJust n.files n.sizes n.name r.1 after r.0.pass)
   pub sampled : IfOk result (λ r. IsSampled r.0.pass)
   pub denied : IfErr result (IsDenied n.files n.sizes n.name n.whole (λ e. e ≡ event.Open file) before after)
   pub full : IfErr result (IsFullIfNoSlip before after)

@@ -1,5 +1,5 @@
 -- What a turn or a loop of a worker makes in a shard, of the worker there: what that of `SharedCache` says.
-use Rattle.std.specs.Prelude.{◌≡◌, ◌+◌, ◌++◌, ◌∷◌, [], ℕ, Option, Result, Some, IfErr, IfNone, IfOk, IfSome, is_some, min, ◌-◌, ◌^◌}
+use Rattle.std.specs.Prelude.{◌≡◌, ◌<◌, ◌+◌, ◌++◌, ◌∷◌, [], ℕ, Option, Result, Some, IfErr, IfNone, IfOk, IfSome, is_some, min, ◌-◌, ◌^◌}
 use Rattle.blockdev.specs.Jobs.{Task}
 use Rattle.crossbeam_queue.specs.Fifo.{Held}
 use Rattle.crossbeam_queue.specs.Passes.{view}
@@ -11,6 +11,7 @@ use Rattle.shared.specs.Own.{IsEviction}
 use Rattle.shared.specs.Settled.{EndsOwn}
 use Rattle.shared.specs.ShardNames.{CacheNames}
 use Rattle.shared.specs.ShardWorkers.{IsWorkerAt}
+use Rattle.shared.specs.Turns.{EntersBy, WasFull}
 use Rattle.shared.specs.Workers.{AllCarried, AllEnded, Ends, FailsOf, FailsOwn, FindsEnough, IsEnd, IsFlushBegin, IsFlushed, IsOfRequest, IsOwnFailure, IsWriteBack, LetsGo, RefusesFirst, company_of, entered_in, popped_by, pushed_by, seat_of}
 use Rattle.shared.specs.declared.ends.Done.{Done}
 use Rattle.shared.specs.declared.turns.Flushed.{Flushed}
@@ -32,7 +33,7 @@ pub record EndsOne (n : CacheNames) (through : ℕ → Type 0) (result : Option 
   pub passed : IfSome result (λ d. through d.serial.0)
 
 -- `flusher_turn`
-pub record WritesOne (n : CacheNames) (result : Result Flushed Denied) (old new : Worker) : Type 0 where
+pub record WritesOne (n : CacheNames) (through : ℕ → Type 0) (result : Result Flushed Denied) (old new : Worker) : Type 0 where
   pub worker : IsWorkerAt n new
   pub goes : Goes (seat_of old) (seat_of new)
   pub only : Only (λ e. IsWriteBack e.event) (seat_of old) (seat_of new)
@@ -47,9 +48,11 @@ pub record WritesOne (n : CacheNames) (result : Result Flushed Denied) (old new 
   pub denied : IfErr result (IsDenied n.files n.sizes n.name n.whole IsFlushBegin (seat_of old) (seat_of new))
   pub unbegun : IfErr result (λ d. (pushed_by new ≡ pushed_by old) × MadeOne d.slip (seat_of old) (seat_of new))
   pub first : IfErr result (λ d. IfSome d.slip (RefusesFirst n.files n.sizes n.name d.refusal (seat_of old) (seat_of new)))
+  pub full : IfOk result (WasFull new)
+  pub passed : IfOk result (EntersBy through)
 
 -- `evictor_turn`
-pub record LetsSome (n : CacheNames) (result : Result ℕ Denied) (old new : Worker) : Type 0 where
+pub record LetsSome (n : CacheNames) (through : ℕ → Type 0) (result : Result ℕ Denied) (old new : Worker) : Type 0 where
   pub worker : IsWorkerAt n new
   pub goes : Goes (seat_of old) (seat_of new)
   pub only : Only (λ e. IsEviction e.event) (seat_of old) (seat_of new)
@@ -58,6 +61,7 @@ pub record LetsSome (n : CacheNames) (result : Result ℕ Denied) (old new : Wor
   pub ring : (popped_by new ≡ popped_by old) × (pushed_by new ≡ pushed_by old)
   pub alone : company_of new ≡ company_of old
   pub denied : IfErr result (IsFullFor n.files n.sizes n.name n.whole IsEviction (seat_of old) (seat_of new))
+  pub passed : IfOk result (λ k. 0 < k → through 0)
 
 -- `io_worker`
 pub record EndsAll (n : CacheNames) (old new : Worker) : Type 0 where

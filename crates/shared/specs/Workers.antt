@@ -251,8 +251,14 @@ abbrev pub lets_go : Reply → Bool
 lets_go (reply.Evicted file page) = true
 lets_go r = false
 
--- how many pages the seat let go since
+-- pages age
+abbrev pub is_age : Event → Bool
+is_age event.Age = true
+is_age e = false
+
+-- how many pages the seat let go since, for each of which it let pages age
 pub record LetsGo (pages : ℕ) (before after : SeatSeen) : Type 0 where
   pub since : List Entry
   pub saw : after.list ≡ before.list ++ since
   pub gone : pages ≡ count_by (λ e. e.seat == before.number && lets_go e.reply) since
+  pub aged : pages ≤ count_by (λ e. e.seat == before.number && is_age e.event) since

@@ -1,7 +1,7 @@
 //! The evictor: frames are free before a caller needs them.
 
 ghost use Rattle.std.specs.Bool.{OnFalse, OnTrue};
-ghost use Rattle.std.specs.Prelude.{◌≡◌, ℕ, IfErr, IfOk, min};
+ghost use Rattle.std.specs.Prelude.{◌≡◌, ◌<◌, ℕ, IfErr, IfOk, min};
 ghost use Rattle.held.specs.Called.{Goes, Only};
 ghost use Rattle.shared.specs.Denials.{IsFullFor};
 ghost use Rattle.shared.specs.Own.{IsEviction};
@@ -39,6 +39,7 @@ impl<B: Naming, D: BlockDevice, T: Trail> SharedCache<B, D, T> {
         ensures ring { (popped_by worker.new ≡ popped_by worker.old) × (pushed_by worker.new ≡ pushed_by worker.old) }
         ensures alone { company_of worker.new ≡ company_of worker.old }
         ensures denied { IfErr result (IsFullFor B.files B.sizes B.name B.whole IsEviction (seat_of worker.old) (seat_of worker.new)) }
+        ensures passed { IfOk result (λ n. 0 < n → G.passed gate.now 0) }
     {
         let mut gone = 0u64;
         'pages: for _ in rt.forever() {

@@ -1,6 +1,6 @@
 //! Files and handles, and what they are told.
 
-ghost use Rattle.std.specs.Prelude.{◌≡◌, ◌≢◌, ◌≤◌, Err, IfErr, IfOk, None, Ok, Some, length};
+ghost use Rattle.std.specs.Prelude.{◌≡◌, ◌≢◌, ◌<◌, ◌≤◌, Err, IfErr, IfOk, None, Ok, Some, length};
 ghost use Rattle.cachecore.specs.Replies.{opened};
 ghost use Rattle.errboard.specs.Views.{told_of};
 ghost use Rattle.machine.specs.declared.event.Event.TheVariants as event;
@@ -12,7 +12,7 @@ ghost use Rattle.held.specs.Entered.{Made};
 ghost use Rattle.shared.specs.Called.{Makes};
 ghost use Rattle.shared.specs.Denials.{IsDenied, IsFullIfNoSlip, MadeOne};
 ghost use Rattle.shared.specs.Own.{admitted};
-ghost use Rattle.shared.specs.Polls.{Hears, IsSampled, Polled};
+ghost use Rattle.shared.specs.Polls.{HearsJust, IsSampled, Polled};
 
 use crate::cache::SharedCache;
 use crate::handle::{FailedWrite, Handle};
@@ -35,6 +35,7 @@ impl<B: Naming, D: BlockDevice, T: Trail> SharedCache<B, D, T> {
         ensures goes { Goes seat.old seat.new }
         ensures only { Only (λ e. e.event ≡ event.Create) seat.old seat.new }
         ensures answer { IfOk result (λ r. Makes seat.old seat.new r.1 event.Create (reply.File r.0)) }
+        ensures few { IfOk result (λ r. r.0.0 < 64) }
         ensures one { IfOk result (λ r. MadeOne (Some r.1) seat.old seat.new) }
         ensures refused_once { IfErr result (λ d. MadeOne d.slip seat.old seat.new) }
         ensures denied { seat.old.name ≡ self.now.name → IfErr result (IsDenied B.files B.sizes B.name B.whole (λ e. e ≡ event.Create) seat.old seat.new) }
@@ -47,7 +48,7 @@ impl<B: Naming, D: BlockDevice, T: Trail> SharedCache<B, D, T> {
     }
 
     /// Opens a file. The handle's cursor is at the beginning; with `append` its writes go to the end of the file.
-    #[tactic(auto, using(held::proofs::Seats::goes_by, held::proofs::Seats::goes_on, held::proofs::Seats::goes_same, crate::proofs::Making::goes_denied, crate::proofs::Making::makes_by, crate::proofs::Making::denied_event, crate::proofs::Making::full_by, crate::proofs::Making::made_one, crate::proofs::Making::denied_one, crate::proofs::Making::none_made, held::proofs::Seats::only_same, crate::proofs::Owning::only_event, crate::proofs::Owning::only_event_denied, crate::proofs::Hearing::hears_named))]
+    #[tactic(auto, using(held::proofs::Seats::goes_by, held::proofs::Seats::goes_on, held::proofs::Seats::goes_same, crate::proofs::Making::goes_denied, crate::proofs::Making::makes_by, crate::proofs::Making::denied_event, crate::proofs::Making::full_by, crate::proofs::Making::made_one, crate::proofs::Making::denied_one, crate::proofs::Making::none_made, held::proofs::Seats::only_same, crate::proofs::Owning::only_event, crate::proofs::Owning::only_event_denied, crate::proofs::Hearing::just_named))]
     pub fn open<R: Wait>(
         &self,
         rt: &R,
@@ -64,7 +65,7 @@ impl<B: Naming, D: BlockDevice, T: Trail> SharedCache<B, D, T> {
         ensures refused_once { IfErr result (λ d. MadeOne d.slip seat.old seat.new) }
         ensures handle { IfOk result (λ r. (r.0.cache ≡ self.now.name) × (r.0.file ≡ file) × (r.0.pass.board ≡ B.board)) }
         ensures begins { IfOk result (λ r. (r.0.cursor ≡ 0) × (r.0.append ≡ append)) }
-        ensures hears { IfOk result (λ r. Hears B.files B.sizes self.now.name r.1 seat.new r.0.pass) }
+        ensures hears { IfOk result (λ r. HearsJust B.files B.sizes self.now.name r.1 seat.new r.0.pass) }
         ensures sampled { IfOk result (λ r. IsSampled r.0.pass) }
         ensures denied { seat.old.name ≡ self.now.name → IfErr result (IsDenied B.files B.sizes B.name B.whole (λ e. e ≡ event.Open file) seat.old seat.new) }
         ensures full { seat.old.name ≡ self.now.name → IfErr result (IsFullIfNoSlip seat.old seat.new) }
@@ -203,7 +204,7 @@ impl<B: Naming, D: BlockDevice, T: Trail> SharedCache<B, D, T> {
     }
 }
 
-/// Opens a file, with a pass that knows all its failed writes up to the slip's entry.
+/// Opens a file, with a pass that knows its failed writes up to the slip's entry, and no other.
 fn open_heard<B: Naming, T: Trail>(
     state: &mut Held<B, T>,
     seat: &mut Seat,
@@ -212,7 +213,7 @@ fn open_heard<B: Naming, T: Trail>(
     requires { seat.old.table ≡ B.table }
     ensures made { IfOk result (λ r. Made (event.Open file) (opened (Ok r.0)) state.old state.new seat.old seat.new r.2) }
     ensures pass { IfOk result (λ r. (r.1.board ≡ B.board) × (r.1.file ≡ file.0)) }
-    ensures hears { IfOk result (λ r. Hears B.files B.sizes B.name r.2 seat.new r.1) }
+    ensures hears { IfOk result (λ r. HearsJust B.files B.sizes B.name r.2 seat.new r.1) }
     ensures sampled { IfOk result (λ r. IsSampled r.1) }
     ensures denied { IfErr result (under.IsDenied B.files B.sizes B.name B.whole (event.Open file) state.old state.new seat.old seat.new) }
 {

@@ -25,7 +25,7 @@ pub(crate) fn put<B: Naming, R: Wait>(
     ensures pass { IsPassFor ring.now B.name B.deeds B.sizes pass.new }
     ensures popped { popped_in pass.new ≡ popped_in pass.old }
     ensures alone { company_in pass.new ≡ company_in pass.old }
-    ensures answer { MatchResult result (λ _. pushed_in pass.new ≡ pushed_in pass.old ++ job ∷ []) (λ back. (back ≡ job) × (pushed_in pass.new ≡ pushed_in pass.old)) }
+    ensures answer { MatchResult result (λ _. pushed_in pass.new ≡ pushed_in pass.old ++ job ∷ []) (λ back. (back ≡ job) × (pushed_in pass.new ≡ pushed_in pass.old) × Held 64 (Stands (view pass.new))) }
 {
     match ring.push(rt, pass, job.unnamed()) {
         Ok(()) => Ok(()),

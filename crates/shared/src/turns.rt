@@ -8,6 +8,7 @@ ghost use Rattle.held.specs.Called.{Goes, Only};
 ghost use Rattle.ring.specs.Order.{Stands};
 ghost use Rattle.shared.specs.Denials.{IsDenied, MadeOne};
 ghost use Rattle.shared.specs.Settled.{EndsOwn, IsBegun, IsEnded};
+ghost use Rattle.shared.specs.Turns.{EntersBy, WasFull};
 ghost use Rattle.shared.specs.Workers.{AllCarried, Begins, Ends, FailsOf, FailsOwn, FindsNothing, IsEnd, IsEndOf, IsFlushBegin, IsFlushed, IsOfRequest, IsOwnFailure, IsWorkerOf, IsWriteBack, OnBegun, RefusesFirst, entered_in, company_of, popped_by, pushed_by, seat_of};
 
 use crate::cache::SharedCache;
@@ -82,6 +83,8 @@ impl<B: Naming, D: BlockDevice, T: Trail> SharedCache<B, D, T> {
         ensures denied { IfErr result (IsDenied B.files B.sizes B.name B.whole IsFlushBegin (seat_of worker.old) (seat_of worker.new)) }
         ensures unbegun { IfErr result (λ d. (pushed_by worker.new ≡ pushed_by worker.old) × MadeOne d.slip (seat_of worker.old) (seat_of worker.new)) }
         ensures first { IfErr result (λ d. IfSome d.slip (RefusesFirst B.files B.sizes B.name d.refusal (seat_of worker.old) (seat_of worker.new))) }
+        ensures full { IfOk result (WasFull worker.new) }
+        ensures passed { IfOk result (EntersBy (G.passed gate.now)) }
     {
         let (job, slip) = match self.begin_flush(rt, &mut worker.seat) {
             Ok(Some(begun)) => begun,

@@ -5,7 +5,7 @@ ghost use Rattle.shared.specs.Workers.{IsWorkerOf};
 ghost use Rattle.storm.specs.Crews.{IsCrewOf};
 
 use crate::member::Member;
-use blockdev::{BlockDevice, Gate};
+use blockdev::{BlockDevice, OpenGate};
 use held::naming::Naming;
 use shared::cache::SharedCache;
 use shared::worker::Worker;
@@ -15,18 +15,6 @@ use trail::FullTrail;
 
 /// The flusher, two I/O workers and the evictor.
 pub const WORKERS: u64 = 4;
-
-/// Lets each worker go on.
-#[derive(Drop)]
-pub(crate) struct Open;
-
-impl Gate for Open {
-    ghost use Rattle.std.specs.Prelude.{⊤};
-
-    ghost passed = { λ _ _. ⊤ };
-
-    fn enter(&self, _number: u64) {}
-}
 
 /// The seats of two workers that are done.
 pub type Pair<B> = (Member<B>, Member<B>);
@@ -144,7 +132,7 @@ fn carry_out_jobs<R: Wait, B: Naming, D: BlockDevice>(
 ) -> Member<B>
     requires { IsWorkerOf cache.now.ring B.name B.table B.deeds B.sizes worker }
 {
-    cache.io_worker(rt, &Open, &mut worker);
+    cache.io_worker(rt, &OpenGate, &mut worker);
     Member::of(worker.into_seat())
 }
 
@@ -155,7 +143,7 @@ fn write_back<R: Wait, B: Naming, D: BlockDevice>(
 ) -> Member<B>
     requires { IsWorkerOf cache.now.ring B.name B.table B.deeds B.sizes worker }
 {
-    cache.flusher(rt, &Open, &mut worker);
+    cache.flusher(rt, &OpenGate, &mut worker);
     Member::of(worker.into_seat())
 }
 
@@ -166,7 +154,7 @@ fn evict<R: Wait, B: Naming, D: BlockDevice>(
 ) -> Member<B>
     requires { IsWorkerOf cache.now.ring B.name B.table B.deeds B.sizes worker }
 {
-    cache.evictor(rt, &Open, &mut worker);
+    cache.evictor(rt, &OpenGate, &mut worker);
     Member::of(worker.into_seat())
 }
 

@@ -5,7 +5,7 @@ ghost use Rattle.std.specs.Prelude.{◌≡◌, ◌<◌, length};
 
 use crate::checks::{check, same};
 use blockdev::{
-    BlockDevice, Buffer, FaultEffect, FinishedParts, Gate, GatedDevice, Job, MemDevice,
+    BlockDevice, Buffer, FaultEffect, FinishedParts, Gate, GatedDevice, Job, MemDevice, OpenGate,
     ScriptDevice, Watched, perform,
 };
 use pc_types::{BlockNo, ErrCode, Geometry, Kind, Refusal, Serial};
@@ -353,4 +353,11 @@ fn each_call_passes_the_gate(rt: HostRuntime) {
     let script = ScriptDevice::new(rt.alloc(), 4, 2).expect(&rt, "memory");
     let mut device = GatedDevice::new(script, gate);
     passes_the_gate(&rt, &mut device);
+}
+
+#[test]
+fn an_open_gate_changes_nothing(rt: HostRuntime) {
+    let script = ScriptDevice::new(rt.alloc(), 4, 2).expect(&rt, "memory");
+    let mut device = GatedDevice::new(script, OpenGate);
+    reads_back(&rt, &mut device);
 }

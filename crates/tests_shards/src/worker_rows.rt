@@ -6,7 +6,7 @@ ghost use Rattle.shared.specs.Workers.{IsOwnFailure};
 
 use crate::caller::{Caller, Opened, Tested};
 use crate::close_rows::Own;
-use blockdev::Gate;
+use blockdev::OpenGate;
 use shared::handle::FailedWrite;
 use shared::shards::naming::ShardNaming;
 use shared::shards::seat::ShardSeat;
@@ -25,18 +25,6 @@ const PAGES: u8 = 192;
 
 /// How often it does.
 const ROUNDS: u8 = 3;
-
-/// Lets a worker go on.
-#[derive(Drop)]
-pub(crate) struct Open;
-
-impl Gate for Open {
-    ghost use Rattle.std.specs.Prelude.{⊤};
-
-    ghost passed = { λ _ _. ⊤ };
-
-    fn enter(&self, _number: u64) {}
-}
 
 /// A worker at each shard of the cache that B names, by a seat of that.
 #[derive(Drop)]
@@ -91,7 +79,7 @@ impl<B: ShardNaming> Hand<B> {
     pub(crate) fn begins<R: Wait>(&mut self, rt: &R, cache: &Tested<'_, B>, shard: u64) -> bool
         requires { shard < B.shards }
     {
-        let begun = cache.flusher_turn(rt, &Open, shard, &mut self.worker);
+        let begun = cache.flusher_turn(rt, &OpenGate, shard, &mut self.worker);
         matches!(begun, Ok(Flushed::Pushed(_, _)))
     }
 
@@ -106,7 +94,7 @@ impl<B: ShardNaming> Hand<B> {
         requires { shard < B.shards }
         ensures { IfSome result (IsOwnFailure (B.names shard).name (B.names shard).board) }
     {
-        match cache.io_turn(rt, &Open, shard, &mut self.worker) {
+        match cache.io_turn(rt, &OpenGate, shard, &mut self.worker) {
             Some(done) => done.failed,
             None => None,
         }
@@ -116,21 +104,21 @@ impl<B: ShardNaming> Hand<B> {
     fn carries_out<R: Wait>(&mut self, rt: &R, cache: &Tested<'_, B>, shard: u64)
         requires { shard < B.shards }
     {
-        cache.io_worker(rt, &Open, shard, &mut self.worker);
+        cache.io_worker(rt, &OpenGate, shard, &mut self.worker);
     }
 
     /// Writes the shard's pages back, till it is told to stop.
     fn writes_back<R: Wait>(&mut self, rt: &R, cache: &Tested<'_, B>, shard: u64)
         requires { shard < B.shards }
     {
-        cache.flusher(rt, &Open, shard, &mut self.worker);
+        cache.flusher(rt, &OpenGate, shard, &mut self.worker);
     }
 
     /// Lets the shard's pages go, till it is told to stop.
     fn lets_go<R: Wait>(&mut self, rt: &R, cache: &Tested<'_, B>, shard: u64)
         requires { shard < B.shards }
     {
-        cache.evictor(rt, &Open, shard, &mut self.worker);
+        cache.evictor(rt, &OpenGate, shard, &mut self.worker);
     }
 }
 

@@ -10,8 +10,7 @@ ghost use Rattle.shared.specs.Workers.{IsWorkerOf};
 
 use crate::rows::two_of;
 use crate::thread_rows::Turnstile;
-use crate::worker_rows::Open;
-use blockdev::{BlockDevice, ScriptDevice};
+use blockdev::{BlockDevice, OpenGate, ScriptDevice};
 use held::log::Seat;
 use held::naming::Naming;
 use machine::Event;
@@ -157,10 +156,10 @@ fn works<B: Naming + Send + Sync, D: BlockDevice + Send, T: Trail + Send, R: Thr
         rt,
         move ||
             requires { IsWorkerOf cache.now.ring B.name B.table B.deeds B.sizes own }
-        { cache.io_worker(rt, &Open, &mut own) },
+        { cache.io_worker(rt, &OpenGate, &mut own) },
         move ||
             requires { IsWorkerOf cache.now.ring B.name B.table B.deeds B.sizes flusher }
-        { cache.flusher(rt, &Open, &mut flusher) },
+        { cache.flusher(rt, &OpenGate, &mut flusher) },
     );
     true
 }

@@ -6,7 +6,7 @@ ghost use Rattle.shared.specs.Workers.{IsWorkerOf};
 
 use crate::rows::{Tested, opens, two_of, with_two};
 use crate::thread_rows::{Turnstile, reads_meanwhile, writes_page};
-use blockdev::{BlockDevice, Gate};
+use blockdev::{BlockDevice, OpenGate};
 use held::log::Seat;
 use held::naming::Naming;
 use shared::handle::Handle;
@@ -25,18 +25,6 @@ const WAKES: u16 = 200;
 
 /// The pauses in which a worker may fall asleep. They are no yields: beside busy threads a yield takes as long as the scheduler likes.
 const PAUSES: u32 = 2_000;
-
-/// Lets a worker go on.
-#[derive(Drop)]
-pub(crate) struct Open;
-
-impl Gate for Open {
-    ghost use Rattle.std.specs.Prelude.{⊤};
-
-    ghost passed = { λ _ _. ⊤ };
-
-    fn enter(&self, _number: u64) {}
-}
 
 /// A page is read while the device call that writes it is held.
 pub(crate) fn reads_beside_a_write<
@@ -87,7 +75,7 @@ pub(crate) fn ends_a_write<B: Naming, D: BlockDevice, R: Wait>(
 ) -> bool
     requires { IsWorkerOf cache.now.ring B.name B.table B.deeds B.sizes worker }
 {
-    match cache.io_turn(rt, &Open, &mut worker) {
+    match cache.io_turn(rt, &OpenGate, &mut worker) {
         Some(done) => done.failed.is_none(),
         None => false,
     }
@@ -166,7 +154,7 @@ fn carries_out<B: Naming, D: BlockDevice, R: Wait>(
 ) -> bool
     requires { IsWorkerOf cache.now.ring B.name B.table B.deeds B.sizes worker }
 {
-    cache.io_worker(rt, &Open, &mut worker);
+    cache.io_worker(rt, &OpenGate, &mut worker);
     true
 }
 
@@ -178,7 +166,7 @@ fn flushes<B: Naming, D: BlockDevice, R: Wait>(
 ) -> bool
     requires { IsWorkerOf cache.now.ring B.name B.table B.deeds B.sizes worker }
 {
-    cache.flusher(rt, &Open, &mut worker);
+    cache.flusher(rt, &OpenGate, &mut worker);
     true
 }
 
@@ -266,9 +254,9 @@ pub(crate) fn stops_with_a_full_ring<B: Naming, D: BlockDevice, R: Wait>(
     };
     let is_full = fills_the_ring(rt, cache, &mut caller, &mut worker);
     cache.stop(rt);
-    cache.io_worker(rt, &Open, &mut worker);
+    cache.io_worker(rt, &OpenGate, &mut worker);
     let is_written = matches!(
-        cache.flusher_turn(rt, &Open, &mut worker),
+        cache.flusher_turn(rt, &OpenGate, &mut worker),
         Ok(Flushed::Nothing)
     );
     is_full && is_written
@@ -334,7 +322,7 @@ pub(crate) fn begins_a_write<B: Naming, D: BlockDevice, R: Wait>(
     ensures { IsWorkerOf cache.now.ring B.name B.table B.deeds B.sizes worker.new }
 {
     matches!(
-        cache.flusher_turn(rt, &Open, worker),
+        cache.flusher_turn(rt, &OpenGate, worker),
         Ok(Flushed::Pushed(_, _))
     )
 }

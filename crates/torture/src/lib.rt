@@ -3,7 +3,7 @@
 //!
 //! `plan` draws what a round is played with, `step` its calls, both by `chance`. `plain` has files as bytes, in two parts that a `window`
 //! keeps each. `book` knows what each call is to answer, by `due`, and `desk` has the service. `game` plays a round, call by call, and
-//! `run` plays rounds, and looks for the fewest calls that show a difference. `told` says what was found.
+//! `run` plays rounds, and looks for the fewest calls that show a difference (`halves`). `told` says what was found.
 //!
 //! Floor: programs.
 

@@ -2,7 +2,8 @@
 //! The history of a cache: which seat made which event, and what the cache answered.
 //!
 //! `entry` has one entry, `trail` the trait of what a history is written into, `full` a trail that keeps every entry
-//! with its bytes, `none` one that counts them, `replay` the check of a history against plain files, and `promises`
+//! with its bytes, `none` one that counts them, `replay` the check of a history against files (`plain`, each in `sparse` memory), `reserve` what is kept free
+//! in a trail, and `promises`
 //! what holds of every honest history. specs/History.antt says which histories are legal, specs/Room.antt how much room
 //! an event needs, and specs/Honest.antt what is asked of the device.
 //!

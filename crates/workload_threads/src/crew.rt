@@ -5,7 +5,7 @@ ghost use Rattle.shared.specs.Workers.{IsWorkerOf};
 ghost use Rattle.workload_threads.specs.Crews.{IsCrewOf};
 
 use crate::member::{Member, Shared};
-use blockdev::Gate;
+use blockdev::OpenGate;
 use held::naming::Naming;
 use pc_types::Refusal;
 use shared::worker::Worker;
@@ -14,18 +14,6 @@ use std::thread::{Threads, join};
 
 /// The flusher, an I/O worker and the evictor.
 pub const WORKERS: u64 = 3;
-
-/// Lets each worker go on.
-#[derive(Drop)]
-struct Open;
-
-impl Gate for Open {
-    ghost use Rattle.std.specs.Prelude.{⊤};
-
-    ghost passed = { λ _ _. ⊤ };
-
-    fn enter(&self, _number: u64) {}
-}
 
 /// The seats of the workers.
 pub type Back<B> = (Member<B>, (Member<B>, Member<B>));
@@ -114,21 +102,21 @@ fn make_room<R: Threads + Wait + Sync, B: Naming + Send + Sync>(
 fn carry_out_jobs<R: Wait, B: Naming>(rt: &R, cache: &Shared<B>, mut worker: Worker) -> Member<B>
     requires { IsWorkerOf cache.now.ring B.name B.table B.deeds B.sizes worker }
 {
-    cache.io_worker(rt, &Open, &mut worker);
+    cache.io_worker(rt, &OpenGate, &mut worker);
     Member::of(worker.into_seat())
 }
 
 fn write_back<R: Wait, B: Naming>(rt: &R, cache: &Shared<B>, mut worker: Worker) -> Member<B>
     requires { IsWorkerOf cache.now.ring B.name B.table B.deeds B.sizes worker }
 {
-    cache.flusher(rt, &Open, &mut worker);
+    cache.flusher(rt, &OpenGate, &mut worker);
     Member::of(worker.into_seat())
 }
 
 fn evict<R: Wait, B: Naming>(rt: &R, cache: &Shared<B>, mut worker: Worker) -> Member<B>
     requires { IsWorkerOf cache.now.ring B.name B.table B.deeds B.sizes worker }
 {
-    cache.evictor(rt, &Open, &mut worker);
+    cache.evictor(rt, &OpenGate, &mut worker);
     Member::of(worker.into_seat())
 }
 

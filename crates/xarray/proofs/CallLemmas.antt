@@ -287,15 +287,19 @@ order_one m first level slot r there none =
       | inr zero ↦ omega (arith, same, level_is, zero)
     ]
 
--- an entry ends where no sibling is beside its first slot
-pub beside_ends : (s : Slab Node) (inv : IsRanged s) (first level : ℕ) → IsFirstSlot (ranges_of s) first level → (r : Range) → map.get (ranges_of s) first ≡ Some r → (at : ℕ) → at ≡ first / 64 ^ level % 64 + 1 → at < 64 → ((f : ℕ) → radix.entry_at s level (first / 64 ^ level / 64 * 64 + at) ≢ Some (Sibling f)) → 6 * level ≡ r.order
-beside_ends s inv first level slot r there at is small none =
+-- an entry ends where no sibling of its own is beside its first slot
+pub single_ends : (s : Slab Node) (inv : IsRanged s) (first level : ℕ) → IsFirstSlot (ranges_of s) first level → (r : Range) → map.get (ranges_of s) first ≡ Some r → (at : ℕ) → at ≡ first / 64 ^ level % 64 + 1 → at < 64 → radix.entry_at s level (first / 64 ^ level / 64 * 64 + at) ≢ Some (Sibling (first / 64 ^ level % 64)) → 6 * level ≡ r.order
+single_ends s inv first level slot r there at is small none =
     let same : level_of r.order ≡ level = ap (λ (z : Range). level_of z.order) (sym (same_Some slot.range r (sym slot.there ∙ there))) ∙ slot.level_is in
     order_one (ranges_of s) first level slot r there (sym (false_from_ne_true _ (λ t.
     let sibling = (inv.stands.each first r there).rest 1 (omega arith) (pow_below 0 (r.order % 6) (ltb-true 0 (r.order % 6) t)) in
     let p : first / 64 ^ level ≡ place_of first r.order = ap (λ l. first / 64 ^ l) (sym same) in
     let q : first / 64 ^ level / 64 * 64 + at ≡ place_of first r.order + 1 = omega (arith, is, small, p) in
-    none (place_of first r.order % 64) (ap (radix.entry_at s level) q ∙ ap (λ l. radix.entry_at s l (place_of first r.order + 1)) (sym same) ∙ sibling))))
+    none (ap (radix.entry_at s level) q ∙ ap (λ l. radix.entry_at s l (place_of first r.order + 1)) (sym same) ∙ sibling ∙ ap (λ z. Some (Sibling (z % 64))) (sym p)))))
+
+-- or none at all
+pub beside_ends : (s : Slab Node) (inv : IsRanged s) (first level : ℕ) → IsFirstSlot (ranges_of s) first level → (r : Range) → map.get (ranges_of s) first ≡ Some r → (at : ℕ) → at ≡ first / 64 ^ level % 64 + 1 → at < 64 → ((f : ℕ) → radix.entry_at s level (first / 64 ^ level / 64 * 64 + at) ≢ Some (Sibling f)) → 6 * level ≡ r.order
+beside_ends s inv first level slot r there at is small none = single_ends s inv first level slot r there at is small (none (first / 64 ^ level % 64))
 
 pub place_again : (first level place : ℕ) → first ≡ place * 64 ^ level → first / 64 ^ level ≡ place
 place_again first level place is = ap (λ z. z / 64 ^ level) is ∙ mul-div_cancel place (pos64 level)

@@ -2,27 +2,31 @@
 use Rattle.std.proofs.Common.{◌≡◌, ℕ, ◌+◌, ◌*◌, ◌/◌, ◌%◌, ◌^◌, ◌<◌, ◌≤◌, zero, suc, [], ◌∷◌, Option, Some, None, IfSome, MatchOption, true, map as map_list, subst, refl, sym, ap, ◌∙◌, inl, inr, arith}
 use Rattle.std.specs.FinMap as map
 use Rattle.std.proofs.lemmas.Bool.{cases_eq}
-use Rattle.std.proofs.lemmas.Option.{same_Some}
+use Rattle.std.proofs.lemmas.Option.{none-some, same_Some}
 use Rattle.std.proofs.Math.Nat.{one-le-pow, pow-suc}
 use Rattle.slab.specs.Slab.{Slab}
 use Rattle.radix.specs.declared.node.Node.{Node}
 use Rattle.radix.specs.declared.entry.Ahead.{Ahead}
+use Rattle.radix.specs.declared.entry.Entry.TheVariants.{Sibling}
+use Rattle.radix.specs.declared.entry.Onward.{Onward}
 use Rattle.radix.specs.declared.entry.Position.{Position}
+use Rattle.radix.specs.declared.entry.Twig.{Twig}
 use Rattle.radix.specs.Entries as radix
-use Rattle.radix.specs.Entries.{IsAlone, IsNextAt, IsNextEntryAt, StandsAt}
+use Rattle.radix.specs.Twigs.{IsTwig, mark_of}
+use Rattle.radix.specs.Entries.{IsAlone, IsNextAt, IsNextEntryAt, IsSingle, StandsAt}
 use Rattle.xarray.specs.declared.entry.Mark.{Mark}
 use Rattle.xarray.specs.declared.entry.Found.{Found}
 use Rattle.xarray.specs.MarkedArray.{Range, Ranges, found_of, has_mark, is_any, lowest, mark_number}
 use Rattle.xarray.specs.Standing.{IsFirstSlot, IsLeafOf, IsOutside, IsSpot, level_of}
 use Rattle.xarray.specs.View.{IsRanged, ranges_of}
-use Rattle.xarray.specs.Walks.{IsNear, IsPlace, kind_of, left}
-use Rattle.xarray.proofs.CallLemmas.{beside_ends}
+use Rattle.xarray.specs.Walks.{IsNear, IsOn, IsPlace, kind_of, left, number_of}
+use Rattle.xarray.proofs.CallLemmas.{single_ends}
 use Rattle.xarray.proofs.SearchLemmas.{any_past, any_spot, mark_past, mark_spot, outside_past}
 use Rattle.xarray.proofs.SpanLemmas.{within}
 use Rattle.xarray.proofs.StandLemmas.{leaf-is}
 use Rattle.xarray.proofs.WalkLemmas.{step_first, step_place, walk_none}
 
-module _ (s : Slab Node) (inv : IsRanged s) (from to first value : ℕ) (outside : IsOutside (ranges_of s) from) (le : from ≤ to) (alone : IsAlone s first) where
+module _ (s : Slab Node) (inv : IsRanged s) (from to first value : ℕ) (outside : IsOutside (ranges_of s) from) (le : from ≤ to) (single : IsSingle s first) where
   abbrev m : Ranges
   m = ranges_of s
 
@@ -30,8 +34,8 @@ module _ (s : Slab Node) (inv : IsRanged s) (from to first value : ℕ) (outside
   at_zero = omega arith
 
   -- an entry of the lowest level without further slots has one index
-  alone_single : IsLeafOf m 0 first value → (r : Range) → map.get m first ≡ Some r → 0 ≡ r.order
-  alone_single t r there =
+  one_index : IsLeafOf m 0 first value → (r : Range) → map.get m first ≡ Some r → 0 ≡ r.order
+  one_index t r there =
       let is : t.first ≡ first = let e = t.first_is in omega (arith, e) in
       let here : map.get m first ≡ Some t.range = ap (map.get m) (sym is) ∙ t.there in
       let slot : IsFirstSlot m first 0 = record { range = t.range; there = here; level_is = t.level_is; top = inv.stands.shape.order t.first t.range t.there } in
@@ -43,8 +47,9 @@ module _ (s : Slab Node) (inv : IsRanged s) (from to first value : ℕ) (outside
             let span = small_order (r.order % 6) (omega (arith, fits, at, last)) in
             omega (arith, low, span)
         | inr inner ↦
-            let e = beside_ends s inv first 0 slot r there (first % 64 + 1) (ap (λ z. z % 64 + 1) (sym at_zero)) (omega (arith, inner))
-            (λ f has. alone.each f (omega (arith, inner)) (ap (radix.entry_at s 0) (let e : first / 64 ^ 0 / 64 * 64 + (first % 64 + 1) ≡ first + 1 = omega (arith, at_zero) in sym e) ∙ has)) in
+            let beside : first / 64 ^ 0 / 64 * 64 + (first % 64 + 1) ≡ first + 1 = omega (arith, at_zero) in
+            let e = single_ends s inv first 0 slot r there (first % 64 + 1) (ap (λ z. z % 64 + 1) (sym at_zero)) (omega (arith, inner))
+            (λ has. single.ends (omega (arith, inner)) (ap (radix.entry_at s 0) (sym beside) ∙ has ∙ ap (λ z. Some (Sibling (z % 64))) at_zero)) in
             omega (arith, e)
       ]
     where
@@ -59,7 +64,7 @@ module _ (s : Slab Node) (inv : IsRanged s) (from to first value : ℕ) (outside
       record {
         past = λ beyond. any_past s m inv.stands from to outside 0 first value t is.next (omega (arith, same, beyond));
         spot = λ low. any_spot s m inv.stands from to outside 0 first value t is.next le (omega (arith, same, low)) first (sym same);
-        single = alone_single t;
+        single = one_index t;
         array = inv.stands.shape;
       }
 
@@ -71,19 +76,31 @@ module _ (s : Slab Node) (inv : IsRanged s) (from to first value : ℕ) (outside
       record {
         past = λ beyond. mark_past s m inv.stands mark from to after 0 first value t is.next (omega (arith, same, beyond));
         spot = λ low. mark_spot s m inv.stands mark from to after 0 first value t is.next le (omega (arith, same, low)) first (sym same);
-        single = alone_single t;
+        single = one_index t;
         array = inv.stands.shape;
       }
 
 -- what a look at the node answers
 module _ (s : Slab Node) (inv : IsRanged s) (from : ℕ) (outside : IsOutside (ranges_of s) from) where
+  alone_single : (place : ℕ) → IsAlone s place → IsSingle s place
+  alone_single place alone = record { ends = λ inner. alone.each (place % 64) inner }
+
   pub near_any_if : (o : Option Ahead) → IfSome o (λ r. IsNextEntryAt s from r.place r.value) → IfSome o (λ r. r.is_alone ≡ true → IsAlone s r.place) → IfSome o (λ r. r.is_alone ≡ true → (to : ℕ) → from ≤ to → IsNear (ranges_of s) is_any from to r.place r.value)
   near_any_if None none alone = tt
-  near_any_if (Some r) is alone = λ tells to le. near_any s inv from to r.place r.value outside le (alone tells) is
+  near_any_if (Some r) is alone = λ tells to le. near_any s inv from to r.place r.value outside le (alone_single r.place (alone tells)) is
 
   pub near_marked_if : (mark : Mark) (number : ℕ) → number ≡ mark_number mark → (o : Option Ahead) → IfSome o (λ r. IsNextAt s number from r.place r.value) → IfSome o (λ r. r.is_alone ≡ true → IsAlone s r.place) → IfSome o (λ r. r.is_alone ≡ true → (to : ℕ) → from ≤ to → IsNear (ranges_of s) (has_mark mark) from to r.place r.value)
   near_marked_if mark number names None none alone = tt
-  near_marked_if mark number names (Some r) is alone = λ tells to le. near_marked s inv from to r.place r.value outside le (alone tells) mark (subst (λ n. IsNextAt s n from r.place r.value) names is)
+  near_marked_if mark number names (Some r) is alone = λ tells to le. near_marked s inv from to r.place r.value outside le (alone_single r.place (alone tells)) mark (subst (λ n. IsNextAt s n from r.place r.value) names is)
+
+  -- what a step by a twig answers
+  pub near_on_if : (number : ℕ) (o : Option Onward) → IfSome o (λ r. IsNextAt s number from r.place r.value) → (number ≡ 3 → IfSome o (λ r. IsNextEntryAt s from r.place r.value)) → IfSome o (λ r. IsSingle s r.place) → IfSome o (λ r. (mark : Option Mark) → number ≡ number_of mark → (to : ℕ) → from ≤ to → IsNear (ranges_of s) (kind_of mark) from to r.place r.value)
+  near_on_if number None next entry single = tt
+  near_on_if number (Some r) next entry single = by_kind
+    where
+      by_kind : (mark : Option Mark) → number ≡ number_of mark → (to : ℕ) → from ≤ to → IsNear (ranges_of s) (kind_of mark) from to r.place r.value
+      by_kind None is = λ to le. near_any s inv from to r.place r.value outside le single (entry is)
+      by_kind (Some mark) is = λ to le. near_marked s inv from to r.place r.value outside le single mark (subst (λ n. IsNextAt s n from r.place r.value) is next)
 
 -- ---- the step to it
 
@@ -103,9 +120,12 @@ module _ (m : Ranges) (mark : Option Mark) (from to first value : ℕ) (near : I
         step_first m near.array mark from to first 0 value spot 0 first (near.single spot.range spot.there) ends next after
         ∙ ap (λ f. f ∷ left mark m next to) (sym is)
 
-    pub near_place : (s : Slab Node) → ranges_of s ≡ m → (cursor : ℕ) → StandsAt s cursor 0 (first / 64) → (above : Option ℕ) → IfSome above (λ k. StandsAt s k 1 (first / 64 / 64)) → (slot : Position) → slot ≡ record { cursor = cursor; level = 0; place = first } → (told : Option ℕ) → told ≡ above → IsPlace s next to (Some slot) told
-    near_place s same cursor stands above up slot is told same_up =
-        let at : first / 64 ^ 0 ≡ first = omega arith in
-        subst (λ a. IsPlace s next to (Some slot) a) (sym same_up)
-        (subst (λ p. IsPlace s next to (Some p) above) (sym is)
-        (step_place m near.array mark from to first 0 value spot 0 first (near.single spot.range spot.there) ends s same cursor (subst (StandsAt s cursor 0) (ap (λ z. z / 64) (sym at)) stands) next first above after (sym at) up))
+    pub near_place : (s : Slab Node) → ranges_of s ≡ m → (twig : Twig) → IsTwig s (first + 1) twig → mark_of twig ≡ number_of mark → (slot : Option Position) → IsPlace s mark next to (Some twig) slot
+    near_place s same twig on mark_is slot =
+        step_place m near.array mark from to first 0 value spot 0 first (near.single spot.range spot.there) ends s same next after (Some twig) slot
+        (λ n is. subst (λ z. IsOn s mark z twig) (sym is) (record { twig = on; mark_is = mark_is }))
+        (λ n is none. absurd (none-some twig (sym none)))
+
+pub on_twig : (s : Slab Node) (mark : Option Mark) (from : ℕ) (o : Option Twig) → IfSome o (λ t. IsOn s mark from t) → IfSome o (λ t. IsTwig s from t)
+on_twig s mark from None on = tt
+on_twig s mark from (Some t) on = on.twig

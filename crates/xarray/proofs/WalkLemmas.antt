@@ -7,12 +7,13 @@ use Rattle.std.proofs.lemmas.Option.{none-some, same_Some}
 use Rattle.slab.specs.Slab.{Slab}
 use Rattle.radix.specs.declared.node.Node.{Node}
 use Rattle.radix.specs.declared.entry.Position.{Position}
+use Rattle.radix.specs.declared.entry.Twig.{Twig}
 use Rattle.radix.specs.Entries.{StandsAt}
 use Rattle.xarray.specs.declared.entry.Mark.{Mark}
 use Rattle.xarray.specs.MarkedArray.{IsArray, Range, Ranges, entries_in, found_of, lowest, meets}
 use Rattle.xarray.specs.Standing.{IsOutside, IsSpot, span_of}
 use Rattle.xarray.specs.View.{ranges_of}
-use Rattle.xarray.specs.Walks.{IsAbove, IsAfter, IsPlace, kind_of, left}
+use Rattle.xarray.specs.Walks.{IsAbove, IsAfter, IsOn, IsPlace, kind_of, left}
 use Rattle.xarray.proofs.SpanLemmas.{end_is as span_end, last_slot, level_low, span_some, within}
 use Rattle.xarray.proofs.EntryLemmas.{Rises, above_key, entries-rise, look, look_here, look_later}
 
@@ -188,17 +189,24 @@ module _ (m : Ranges) (array : IsArray m) (mark : Option Mark) (from to first le
         after = end_is ∙ whole ∙ ap (λ z. z * 64 ^ level) (sym ends);
       }
 
-  pub step_place : (s : Slab Node) → ranges_of s ≡ m → (cursor : ℕ) → StandsAt s cursor level (first / 64 ^ level / 64) → (next : Option ℕ) (place : ℕ) (above : Option ℕ) → MatchOption next (to ≤ last) (λ n. (n ≡ last + 1) × (last < to)) → place ≡ last / 64 ^ level → IfSome above (λ k. StandsAt s k (level + 1) (place / 64 / 64)) → IsPlace s next to (Some (record { cursor = cursor; level = level; place = place })) above
-  step_place s same cursor stands next place above after at up = record {
+  pub step_place : (s : Slab Node) → ranges_of s ≡ m → (next : Option ℕ) → MatchOption next (to ≤ last) (λ n. (n ≡ last + 1) × (last < to)) → (twig : Option Twig) (slot : Option Position) → ((n : ℕ) → n ≡ last + 1 → IfSome twig (λ t. IsOn s mark n t)) → ((n : ℕ) → n ≡ last + 1 → twig ≡ None → IfSome slot (λ p. IsAfter s p n)) → IsPlace s mark next to twig slot
+  step_place s same next after twig slot on comes = record {
     outside = λ n is. subst (λ m. IsOutside m n) (sym same) (subst (IsOutside m) (sym (this next n after is).0) outside_after);
     le = λ n is. let a = this next n after is in omega (arith, a.0, a.1);
-    after = λ n is. subst (IsAfter s (record { cursor = cursor; level = level; place = place })) (sym (this next n after is).0) (slot_after s cursor stands place at);
-    up = up;
+    on = λ n is. on n (this next n after is).0;
+    after = λ n is. comes n (this next n after is).0;
   }
     where
       this : (next : Option ℕ) (n : ℕ) → MatchOption next (to ≤ last) (λ n. (n ≡ last + 1) × (last < to)) → next ≡ Some n → (n ≡ last + 1) × (last < to)
       this None n h is = absurd (none-some n is)
       this (Some x) n h is = let e = same_Some x n is in (sym e ∙ h.0, h.1)
+
+  -- the twig of its last slot, if that is of the lowest level
+  pub step_twig : (s : Slab Node) (place : ℕ) → place ≡ last / 64 ^ level → (twig : Option Twig) → IfSome twig (λ t. (level ≡ 0) × IsOn s mark (place + 1) t) → (n : ℕ) → n ≡ last + 1 → IfSome twig (λ t. IsOn s mark n t)
+  step_twig s place at None on n is = tt
+  step_twig s place at (Some t) on n is =
+      let whole : last / 64 ^ level ≡ last = ap (λ l. last / 64 ^ l) on.0 ∙ (let e : last / 64 ^ 0 ≡ last = omega arith in e) in
+      subst (λ z. IsOn s mark z t) (let e : place + 1 ≡ n = omega (arith, at, whole, is) in e) on.1
 
 -- ---- a slot of the lowest level
 
@@ -211,3 +219,11 @@ module _ (s : Slab Node) (slot : Position) (low : slot.level ≡ 0) where
 
   pub slot_above : (above : Option ℕ) → IsAbove s slot above → IfSome above (λ k. StandsAt s k 1 (slot.place / 64 / 64))
   slot_above above up = subst (λ l. IfSome above (λ k. StandsAt s k (l + 1) (slot.place / 64 / 64))) low up
+
+-- a slot of the lowest level comes right before the index
+pub slot_after_is : (s : Slab Node) (slot : Position) (from : ℕ) → slot.level ≡ 0 → StandsAt s slot.cursor 0 (slot.place / 64) → from ≡ slot.place + 1 → IsAfter s slot from
+slot_after_is s slot from low stands after = record {
+  low = omega (arith, low);
+  stands = subst (λ l. StandsAt s slot.cursor l (slot.place / 64)) (sym low) stands;
+  after = after ∙ (let e : slot.place + 1 ≡ (slot.place + 1) * 64 ^ 0 = omega arith in e) ∙ ap (λ l. (slot.place + 1) * 64 ^ l) (sym low);
+}

@@ -4,10 +4,12 @@ use Rattle.std.specs.FinMap as map
 use Rattle.slab.specs.Slab.{Slab}
 use Rattle.radix.specs.declared.node.Node.{Node}
 use Rattle.radix.specs.declared.entry.Position.{Position}
+use Rattle.radix.specs.declared.entry.Twig.{Twig}
 use Rattle.radix.specs.Entries.{StandsAt}
+use Rattle.radix.specs.Twigs.{IsTwig, mark_of}
 use Rattle.xarray.specs.declared.entry.Found.{Found}
 use Rattle.xarray.specs.declared.entry.Mark.{Mark}
-use Rattle.xarray.specs.MarkedArray.{IsArray, Range, Ranges, found_of, has_mark, is_any, entries_in, lowest}
+use Rattle.xarray.specs.MarkedArray.{IsArray, Range, Ranges, found_of, has_mark, is_any, entries_in, lowest, mark_number}
 use Rattle.xarray.specs.Standing.{IsOutside, IsSpot}
 use Rattle.xarray.specs.View.{ranges_of}
 
@@ -38,9 +40,20 @@ pub record IsNear (m : Ranges) (kind : Range → Bool) (from to first value : �
   pub single : (r : Range) → map.get m first ≡ Some r → 0 ≡ r.order
   pub array : IsArray m
 
--- a walk may go on from this index: no entry begins before it and ends past it, and it comes after the slot, if one is known
-pub record IsPlace (s : Slab Node) (next : Option ℕ) (to : ℕ) (slot : Option Position) (above : Option ℕ) : Type 0 where
+-- the mark by which a walk goes from entry to entry: every entry has mark 3
+abbrev pub number_of : Option Mark → ℕ
+number_of None = 3
+number_of (Some mark) = mark_number mark
+
+-- a walk goes on at an index from this twig
+pub record IsOn (s : Slab Node) (mark : Option Mark) (from : ℕ) (t : Twig) : Type 0 where
+  pub twig : IsTwig s from t
+  pub mark_is : mark_of t ≡ number_of mark
+
+-- a walk may go on from this index: no entry begins before it and ends past it, and it comes after the twig, or else after the
+-- slot, if one is known
+pub record IsPlace (s : Slab Node) (mark : Option Mark) (next : Option ℕ) (to : ℕ) (twig : Option Twig) (slot : Option Position) : Type 0 where
   pub outside : (from : ℕ) → next ≡ Some from → IsOutside (ranges_of s) from
   pub le : (from : ℕ) → next ≡ Some from → from ≤ to
-  pub after : (from : ℕ) → next ≡ Some from → IfSome slot (λ p. IsAfter s p from)
-  pub up : IfSome slot (λ p. IsAbove s p above)
+  pub on : (from : ℕ) → next ≡ Some from → IfSome twig (λ t. IsOn s mark from t)
+  pub after : (from : ℕ) → next ≡ Some from → twig ≡ None → IfSome slot (λ p. IsAfter s p from)

@@ -1,5 +1,6 @@
-//! The entries of a range of indexes, one after another in rising order. The walk keeps its slot and the node above, so most of its
-//! steps read that node alone, and the others go up from it (xas_for_each and xas_for_each_marked of Linux; decision 128).
+//! The entries of a range of indexes, one after another in rising order. The walk keeps the node that it has come to and the one above,
+//! so most of its steps read that node alone, and the others go up from it (xas_for_each and xas_for_each_marked of Linux; decision
+//! 128).
 ghost use Rattle.std.specs.Prelude.{◌≡◌, map as map_list};
 ghost use Rattle.std.specs.Iterator.{YieldsFirst, item_count};
 ghost use Rattle.xarray.specs.MarkedArray.{found_of, entries_in};
@@ -7,8 +8,8 @@ ghost use Rattle.xarray.specs.View.{ranges_of};
 ghost use Rattle.xarray.specs.Walks.{kind_of};
 
 use crate::entry::{Found, Mark};
-use crate::ranged::Ranged;
-use radix::{Cursor, Position};
+use crate::ranged::{Ranged, index_after};
+use radix::{Onward, Position, Twig};
 use std::marker::Model;
 
 /// The entries whose ranges meet a range of indexes, seen as the list of those that are left.
@@ -20,10 +21,10 @@ pub struct Entries<'a> {
     /// Where the walk goes on: no entry begins before and ends past it. None where it is over.
     next: Option<u64>,
     to: u64,
-    /// The last slot of the entry before `next`, if there is one.
+    /// Where the walk stands, if the entry before `next` ends at a slot of the lowest level.
+    twig: Option<Twig<'a>>,
+    /// Else the last slot of that entry, if there is one.
     slot: Option<Position>,
-    /// The node above that of the slot, if it is known.
-    above: Option<Cursor>,
 }
 
 impl<'a> Model for Entries<'a> {
@@ -36,7 +37,7 @@ impl<'a> Model for Entries<'a> {
 
     ghost view = { λ it. left it.mark (ranges_of it.ranged.now) it.next it.to };
 
-    ghost invariant = { λ it. IsPlace it.ranged.now it.next it.to it.slot it.above };
+    ghost invariant = { λ it. IsPlace it.ranged.now it.mark it.next it.to it.twig it.slot };
 }
 
 impl<'a> Entries<'a> {
@@ -55,8 +56,8 @@ impl<'a> Entries<'a> {
             mark,
             next,
             to,
+            twig: None,
             slot: None,
-            above: None,
         }
     }
 }
@@ -71,16 +72,32 @@ impl<'a> Iterator for Entries<'a> {
     #[inline(always)]
     fn next(&mut self) -> Option<Found> {
         let from = self.next?;
+        if let Some(twig) = self.twig
+            && let Some(onward) = self.ranged.next_on(twig, from)
+        {
+            let Onward { twig, place, value } = onward;
+            if place > self.to {
+                self.next = None;
+                return None;
+            }
+            self.next = index_after(place, self.to);
+            self.twig = Some(twig);
+            return Some(Found {
+                first: place,
+                order: 0,
+                value,
+            });
+        }
         let Some(step) = self
             .ranged
-            .step(self.slot, self.above, from, self.to, self.mark)
+            .step(self.twig, self.slot, from, self.to, self.mark)
         else {
             self.next = None;
             return None;
         };
         self.next = step.next;
+        self.twig = step.twig;
         self.slot = Some(step.slot);
-        self.above = step.above;
         Some(step.found)
     }
 }

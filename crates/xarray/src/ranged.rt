@@ -22,6 +22,7 @@ pub use split::Whole;
 use std::alloc::Global;
 use std::marker::Model;
 pub use walks::Step;
+pub(crate) use walks::index_after;
 
 /// Entries with three marks, by ranges of indexes.
 #[derive(Drop)]

@@ -1,6 +1,6 @@
-//! Reads, writes, and where the next one begins.
+//! Reads and writes, where the next one begins, and how long a file is.
 
-ghost use Rattle.std.specs.Prelude.{◌≡◌, ◌≢◌, ◌<◌, ◌≤◌, Err, None, false, true};
+ghost use Rattle.std.specs.Prelude.{◌≡◌, ◌+◌, ◌≢◌, ◌<◌, ◌≤◌, Err, None, false, true};
 ghost use Rattle.pc_types.specs.declared.refusal.Refusal.TheVariants.{BadHandle, Stranger};
 ghost use Rattle.held.specs.Called.{Goes};
 ghost use Rattle.shared.specs.ShardCalls.{Cuts, Measures, Moves, Reads, ReadsOn, Writes, WritesOn};
@@ -11,7 +11,7 @@ use crate::handle::Handle;
 use crate::shards::cache::ShardedCache;
 use crate::shards::handle::ShardHandle;
 use crate::shards::naming::{Shard, ShardNaming};
-use crate::shards::place::{Four, Place, Sixteen, Span, at_quarter};
+use crate::shards::place::{Four, Place, Sixteen, at_quarter};
 use crate::shards::seat::ShardSeat;
 use crate::writes::Wrote;
 use blockdev::BlockDevice;
@@ -133,8 +133,7 @@ impl<B: ShardNaming, D: BlockDevice, T: Trail, const K: u64> SharedCache<Shard<B
     }
 }
 
-/// Reads, writes and sizes of files of one of these shards.
-pub(crate) trait Bytes<B: ShardNaming>: Span {
+impl<B: ShardNaming, D: BlockDevice, T: Trail, const K: u64> Place<B, D, T, K> {
     fn pread<R: Wait>(
         &self,
         rt: &R,
@@ -144,12 +143,14 @@ pub(crate) trait Bytes<B: ShardNaming>: Span {
         offset: u64,
         out: &mut [u8],
     ) -> Result<(u64, Slip), Denied>
-        requires whole { Self.whole }
-        requires at { (Self.first ≤ shard) × (shard < Self.end) × (shard < B.shards) }
+        requires at { (K ≤ shard) × (shard < K + 1) × (shard < B.shards) }
         requires seat { own.old.name ≡ (B.names shard).name → own.old.table ≡ (B.names shard).table }
         ensures goes { Goes own.old own.new }
         ensures foreign { own.old.name ≢ (B.names shard).name → (result ≡ Err (record { refusal = Stranger; slip = None })) × (own.new ≡ own.old) × (out.new ≡ out.old) }
-        ensures call { own.old.name ≡ (B.names shard).name → Reads (B.names shard) handle.now offset out.old out.new result own.old own.new };
+        ensures call { own.old.name ≡ (B.names shard).name → Reads (B.names shard) handle.now offset out.old out.new result own.old own.new }
+    {
+        self.cache().pread_in(rt, own, handle, offset, out)
+    }
 
     fn read<R: Wait>(
         &self,
@@ -159,13 +160,15 @@ pub(crate) trait Bytes<B: ShardNaming>: Span {
         handle: &mut Handle,
         out: &mut [u8],
     ) -> Result<(u64, Slip), Denied>
-        requires whole { Self.whole }
-        requires at { (Self.first ≤ shard) × (shard < Self.end) × (shard < B.shards) }
+        requires at { (K ≤ shard) × (shard < K + 1) × (shard < B.shards) }
         requires seat { own.old.name ≡ (B.names shard).name → own.old.table ≡ (B.names shard).table }
         ensures goes { Goes own.old own.new }
         ensures foreign { own.old.name ≢ (B.names shard).name → (result ≡ Err (record { refusal = Stranger; slip = None })) × (own.new ≡ own.old) × (out.new ≡ out.old) × (handle.new ≡ handle.old) }
         ensures same { handle.new ≡ record handle.old { cursor = handle.new.cursor } }
-        ensures call { own.old.name ≡ (B.names shard).name → ReadsOn (B.names shard) handle.old handle.new out.old out.new result own.old own.new };
+        ensures call { own.old.name ≡ (B.names shard).name → ReadsOn (B.names shard) handle.old handle.new out.old out.new result own.old own.new }
+    {
+        self.cache().read_in(rt, own, handle, out)
+    }
 
     fn seek<R: Wait>(
         &self,
@@ -175,13 +178,15 @@ pub(crate) trait Bytes<B: ShardNaming>: Span {
         handle: &mut Handle,
         place: Seek,
     ) -> Result<(u64, Option<Slip>), Denied>
-        requires whole { Self.whole }
-        requires at { (Self.first ≤ shard) × (shard < Self.end) × (shard < B.shards) }
+        requires at { (K ≤ shard) × (shard < K + 1) × (shard < B.shards) }
         requires seat { own.old.name ≡ (B.names shard).name → own.old.table ≡ (B.names shard).table }
         ensures goes { Goes own.old own.new }
         ensures foreign { own.old.name ≢ (B.names shard).name → (result ≡ Err (record { refusal = Stranger; slip = None })) × (own.new ≡ own.old) × (handle.new ≡ handle.old) }
         ensures same { handle.new ≡ record handle.old { cursor = handle.new.cursor } }
-        ensures call { own.old.name ≡ (B.names shard).name → Moves (B.names shard) place handle.old handle.new result own.old own.new };
+        ensures call { own.old.name ≡ (B.names shard).name → Moves (B.names shard) place handle.old handle.new result own.old own.new }
+    {
+        self.cache().seek_in(rt, own, handle, place)
+    }
 
     fn pwrite<R: Wait>(
         &self,
@@ -192,12 +197,14 @@ pub(crate) trait Bytes<B: ShardNaming>: Span {
         offset: u64,
         bytes: &[u8],
     ) -> Result<(Wrote, Slip), Denied>
-        requires whole { Self.whole }
-        requires at { (Self.first ≤ shard) × (shard < Self.end) × (shard < B.shards) }
+        requires at { (K ≤ shard) × (shard < K + 1) × (shard < B.shards) }
         requires seat { own.old.name ≡ (B.names shard).name → own.old.table ≡ (B.names shard).table }
         ensures goes { Goes own.old own.new }
         ensures foreign { own.old.name ≢ (B.names shard).name → (result ≡ Err (record { refusal = Stranger; slip = None })) × (own.new ≡ own.old) }
-        ensures call { own.old.name ≡ (B.names shard).name → Writes (B.names shard) handle.now offset bytes.now result own.old own.new };
+        ensures call { own.old.name ≡ (B.names shard).name → Writes (B.names shard) handle.now offset bytes.now result own.old own.new }
+    {
+        self.cache().pwrite_in(rt, own, handle, offset, bytes)
+    }
 
     fn write<R: Wait>(
         &self,
@@ -207,13 +214,15 @@ pub(crate) trait Bytes<B: ShardNaming>: Span {
         handle: &mut Handle,
         bytes: &[u8],
     ) -> Result<(Wrote, Slip), Denied>
-        requires whole { Self.whole }
-        requires at { (Self.first ≤ shard) × (shard < Self.end) × (shard < B.shards) }
+        requires at { (K ≤ shard) × (shard < K + 1) × (shard < B.shards) }
         requires seat { own.old.name ≡ (B.names shard).name → own.old.table ≡ (B.names shard).table }
         ensures goes { Goes own.old own.new }
         ensures foreign { own.old.name ≢ (B.names shard).name → (result ≡ Err (record { refusal = Stranger; slip = None })) × (own.new ≡ own.old) × (handle.new ≡ handle.old) }
         ensures same { handle.new ≡ record handle.old { cursor = handle.new.cursor } }
-        ensures call { own.old.name ≡ (B.names shard).name → WritesOn (B.names shard) handle.old handle.new bytes.now result own.old own.new };
+        ensures call { own.old.name ≡ (B.names shard).name → WritesOn (B.names shard) handle.old handle.new bytes.now result own.old own.new }
+    {
+        self.cache().write_in(rt, own, handle, bytes)
+    }
 
     fn truncate<R: Wait>(
         &self,
@@ -223,12 +232,14 @@ pub(crate) trait Bytes<B: ShardNaming>: Span {
         handle: &Handle,
         size: u64,
     ) -> Result<Slip, Denied>
-        requires whole { Self.whole }
-        requires at { (Self.first ≤ shard) × (shard < Self.end) × (shard < B.shards) }
+        requires at { (K ≤ shard) × (shard < K + 1) × (shard < B.shards) }
         requires seat { own.old.name ≡ (B.names shard).name → own.old.table ≡ (B.names shard).table }
         ensures goes { Goes own.old own.new }
         ensures foreign { own.old.name ≢ (B.names shard).name → (result ≡ Err (record { refusal = Stranger; slip = None })) × (own.new ≡ own.old) }
-        ensures call { own.old.name ≡ (B.names shard).name → Cuts (B.names shard) handle.now size result own.old own.new };
+        ensures call { own.old.name ≡ (B.names shard).name → Cuts (B.names shard) handle.now size result own.old own.new }
+    {
+        self.cache().truncate_in(rt, own, handle, size)
+    }
 
     fn size<R: Wait>(
         &self,
@@ -237,90 +248,12 @@ pub(crate) trait Bytes<B: ShardNaming>: Span {
         own: &mut Seat,
         handle: &Handle,
     ) -> Result<(u64, Slip), Denied>
-        requires whole { Self.whole }
-        requires at { (Self.first ≤ shard) × (shard < Self.end) × (shard < B.shards) }
+        requires at { (K ≤ shard) × (shard < K + 1) × (shard < B.shards) }
         requires seat { own.old.name ≡ (B.names shard).name → own.old.table ≡ (B.names shard).table }
         ensures goes { Goes own.old own.new }
         ensures foreign { own.old.name ≢ (B.names shard).name → (result ≡ Err (record { refusal = Stranger; slip = None })) × (own.new ≡ own.old) }
-        ensures call { own.old.name ≡ (B.names shard).name → Measures (B.names shard) handle.now result own.old own.new };
-}
-
-impl<B: ShardNaming, D: BlockDevice, T: Trail, const K: u64> Bytes<B> for Place<B, D, T, K> {
-    fn pread<R: Wait>(
-        &self,
-        rt: &R,
-        _shard: u64,
-        own: &mut Seat,
-        handle: &Handle,
-        offset: u64,
-        out: &mut [u8],
-    ) -> Result<(u64, Slip), Denied> {
-        self.cache().pread_in(rt, own, handle, offset, out)
-    }
-
-    fn read<R: Wait>(
-        &self,
-        rt: &R,
-        _shard: u64,
-        own: &mut Seat,
-        handle: &mut Handle,
-        out: &mut [u8],
-    ) -> Result<(u64, Slip), Denied> {
-        self.cache().read_in(rt, own, handle, out)
-    }
-
-    fn seek<R: Wait>(
-        &self,
-        rt: &R,
-        _shard: u64,
-        own: &mut Seat,
-        handle: &mut Handle,
-        place: Seek,
-    ) -> Result<(u64, Option<Slip>), Denied> {
-        self.cache().seek_in(rt, own, handle, place)
-    }
-
-    fn pwrite<R: Wait>(
-        &self,
-        rt: &R,
-        _shard: u64,
-        own: &mut Seat,
-        handle: &Handle,
-        offset: u64,
-        bytes: &[u8],
-    ) -> Result<(Wrote, Slip), Denied> {
-        self.cache().pwrite_in(rt, own, handle, offset, bytes)
-    }
-
-    fn write<R: Wait>(
-        &self,
-        rt: &R,
-        _shard: u64,
-        own: &mut Seat,
-        handle: &mut Handle,
-        bytes: &[u8],
-    ) -> Result<(Wrote, Slip), Denied> {
-        self.cache().write_in(rt, own, handle, bytes)
-    }
-
-    fn truncate<R: Wait>(
-        &self,
-        rt: &R,
-        _shard: u64,
-        own: &mut Seat,
-        handle: &Handle,
-        size: u64,
-    ) -> Result<Slip, Denied> {
-        self.cache().truncate_in(rt, own, handle, size)
-    }
-
-    fn size<R: Wait>(
-        &self,
-        rt: &R,
-        _shard: u64,
-        own: &mut Seat,
-        handle: &Handle,
-    ) -> Result<(u64, Slip), Denied> {
+        ensures call { own.old.name ≡ (B.names shard).name → Measures (B.names shard) handle.now result own.old own.new }
+    {
         self.cache().size_in(rt, own, handle)
     }
 }
@@ -333,7 +266,7 @@ impl<
     const J: u64,
     const K: u64,
     const L: u64,
-> Bytes<B> for Four<B, D, T, I, J, K, L> {
+> Four<B, D, T, I, J, K, L> {
     fn pread<R: Wait>(
         &self,
         rt: &R,
@@ -342,7 +275,14 @@ impl<
         handle: &Handle,
         offset: u64,
         out: &mut [u8],
-    ) -> Result<(u64, Slip), Denied> {
+    ) -> Result<(u64, Slip), Denied>
+        requires whole { (J ≡ I + 1) × (K ≡ J + 1) × (L ≡ K + 1) }
+        requires at { (I ≤ shard) × (shard < L + 1) × (shard < B.shards) }
+        requires seat { own.old.name ≡ (B.names shard).name → own.old.table ≡ (B.names shard).table }
+        ensures goes { Goes own.old own.new }
+        ensures foreign { own.old.name ≢ (B.names shard).name → (result ≡ Err (record { refusal = Stranger; slip = None })) × (own.new ≡ own.old) × (out.new ≡ out.old) }
+        ensures call { own.old.name ≡ (B.names shard).name → Reads (B.names shard) handle.now offset out.old out.new result own.old own.new }
+    {
         at_quarter!(
             self,
             shard,
@@ -358,7 +298,15 @@ impl<
         own: &mut Seat,
         handle: &mut Handle,
         out: &mut [u8],
-    ) -> Result<(u64, Slip), Denied> {
+    ) -> Result<(u64, Slip), Denied>
+        requires whole { (J ≡ I + 1) × (K ≡ J + 1) × (L ≡ K + 1) }
+        requires at { (I ≤ shard) × (shard < L + 1) × (shard < B.shards) }
+        requires seat { own.old.name ≡ (B.names shard).name → own.old.table ≡ (B.names shard).table }
+        ensures goes { Goes own.old own.new }
+        ensures foreign { own.old.name ≢ (B.names shard).name → (result ≡ Err (record { refusal = Stranger; slip = None })) × (own.new ≡ own.old) × (out.new ≡ out.old) × (handle.new ≡ handle.old) }
+        ensures same { handle.new ≡ record handle.old { cursor = handle.new.cursor } }
+        ensures call { own.old.name ≡ (B.names shard).name → ReadsOn (B.names shard) handle.old handle.new out.old out.new result own.old own.new }
+    {
         at_quarter!(self, shard, [J, K, L], read(rt, shard, own, handle, out))
     }
 
@@ -369,7 +317,15 @@ impl<
         own: &mut Seat,
         handle: &mut Handle,
         place: Seek,
-    ) -> Result<(u64, Option<Slip>), Denied> {
+    ) -> Result<(u64, Option<Slip>), Denied>
+        requires whole { (J ≡ I + 1) × (K ≡ J + 1) × (L ≡ K + 1) }
+        requires at { (I ≤ shard) × (shard < L + 1) × (shard < B.shards) }
+        requires seat { own.old.name ≡ (B.names shard).name → own.old.table ≡ (B.names shard).table }
+        ensures goes { Goes own.old own.new }
+        ensures foreign { own.old.name ≢ (B.names shard).name → (result ≡ Err (record { refusal = Stranger; slip = None })) × (own.new ≡ own.old) × (handle.new ≡ handle.old) }
+        ensures same { handle.new ≡ record handle.old { cursor = handle.new.cursor } }
+        ensures call { own.old.name ≡ (B.names shard).name → Moves (B.names shard) place handle.old handle.new result own.old own.new }
+    {
         at_quarter!(self, shard, [J, K, L], seek(rt, shard, own, handle, place))
     }
 
@@ -381,7 +337,14 @@ impl<
         handle: &Handle,
         offset: u64,
         bytes: &[u8],
-    ) -> Result<(Wrote, Slip), Denied> {
+    ) -> Result<(Wrote, Slip), Denied>
+        requires whole { (J ≡ I + 1) × (K ≡ J + 1) × (L ≡ K + 1) }
+        requires at { (I ≤ shard) × (shard < L + 1) × (shard < B.shards) }
+        requires seat { own.old.name ≡ (B.names shard).name → own.old.table ≡ (B.names shard).table }
+        ensures goes { Goes own.old own.new }
+        ensures foreign { own.old.name ≢ (B.names shard).name → (result ≡ Err (record { refusal = Stranger; slip = None })) × (own.new ≡ own.old) }
+        ensures call { own.old.name ≡ (B.names shard).name → Writes (B.names shard) handle.now offset bytes.now result own.old own.new }
+    {
         at_quarter!(
             self,
             shard,
@@ -397,7 +360,15 @@ impl<
         own: &mut Seat,
         handle: &mut Handle,
         bytes: &[u8],
-    ) -> Result<(Wrote, Slip), Denied> {
+    ) -> Result<(Wrote, Slip), Denied>
+        requires whole { (J ≡ I + 1) × (K ≡ J + 1) × (L ≡ K + 1) }
+        requires at { (I ≤ shard) × (shard < L + 1) × (shard < B.shards) }
+        requires seat { own.old.name ≡ (B.names shard).name → own.old.table ≡ (B.names shard).table }
+        ensures goes { Goes own.old own.new }
+        ensures foreign { own.old.name ≢ (B.names shard).name → (result ≡ Err (record { refusal = Stranger; slip = None })) × (own.new ≡ own.old) × (handle.new ≡ handle.old) }
+        ensures same { handle.new ≡ record handle.old { cursor = handle.new.cursor } }
+        ensures call { own.old.name ≡ (B.names shard).name → WritesOn (B.names shard) handle.old handle.new bytes.now result own.old own.new }
+    {
         at_quarter!(self, shard, [J, K, L], write(rt, shard, own, handle, bytes))
     }
 
@@ -408,7 +379,14 @@ impl<
         own: &mut Seat,
         handle: &Handle,
         size: u64,
-    ) -> Result<Slip, Denied> {
+    ) -> Result<Slip, Denied>
+        requires whole { (J ≡ I + 1) × (K ≡ J + 1) × (L ≡ K + 1) }
+        requires at { (I ≤ shard) × (shard < L + 1) × (shard < B.shards) }
+        requires seat { own.old.name ≡ (B.names shard).name → own.old.table ≡ (B.names shard).table }
+        ensures goes { Goes own.old own.new }
+        ensures foreign { own.old.name ≢ (B.names shard).name → (result ≡ Err (record { refusal = Stranger; slip = None })) × (own.new ≡ own.old) }
+        ensures call { own.old.name ≡ (B.names shard).name → Cuts (B.names shard) handle.now size result own.old own.new }
+    {
         at_quarter!(
             self,
             shard,
@@ -423,12 +401,19 @@ impl<
         shard: u64,
         own: &mut Seat,
         handle: &Handle,
-    ) -> Result<(u64, Slip), Denied> {
+    ) -> Result<(u64, Slip), Denied>
+        requires whole { (J ≡ I + 1) × (K ≡ J + 1) × (L ≡ K + 1) }
+        requires at { (I ≤ shard) × (shard < L + 1) × (shard < B.shards) }
+        requires seat { own.old.name ≡ (B.names shard).name → own.old.table ≡ (B.names shard).table }
+        ensures goes { Goes own.old own.new }
+        ensures foreign { own.old.name ≢ (B.names shard).name → (result ≡ Err (record { refusal = Stranger; slip = None })) × (own.new ≡ own.old) }
+        ensures call { own.old.name ≡ (B.names shard).name → Measures (B.names shard) handle.now result own.old own.new }
+    {
         at_quarter!(self, shard, [J, K, L], size(rt, shard, own, handle))
     }
 }
 
-impl<B: ShardNaming, D: BlockDevice, T: Trail> Bytes<B> for Sixteen<B, D, T> {
+impl<B: ShardNaming, D: BlockDevice, T: Trail> Sixteen<B, D, T> {
     fn pread<R: Wait>(
         &self,
         rt: &R,
@@ -437,7 +422,13 @@ impl<B: ShardNaming, D: BlockDevice, T: Trail> Bytes<B> for Sixteen<B, D, T> {
         handle: &Handle,
         offset: u64,
         out: &mut [u8],
-    ) -> Result<(u64, Slip), Denied> {
+    ) -> Result<(u64, Slip), Denied>
+        requires at { (shard < 16) × (shard < B.shards) }
+        requires seat { own.old.name ≡ (B.names shard).name → own.old.table ≡ (B.names shard).table }
+        ensures goes { Goes own.old own.new }
+        ensures foreign { own.old.name ≢ (B.names shard).name → (result ≡ Err (record { refusal = Stranger; slip = None })) × (own.new ≡ own.old) × (out.new ≡ out.old) }
+        ensures call { own.old.name ≡ (B.names shard).name → Reads (B.names shard) handle.now offset out.old out.new result own.old own.new }
+    {
         at_quarter!(
             self,
             shard,
@@ -453,7 +444,14 @@ impl<B: ShardNaming, D: BlockDevice, T: Trail> Bytes<B> for Sixteen<B, D, T> {
         own: &mut Seat,
         handle: &mut Handle,
         out: &mut [u8],
-    ) -> Result<(u64, Slip), Denied> {
+    ) -> Result<(u64, Slip), Denied>
+        requires at { (shard < 16) × (shard < B.shards) }
+        requires seat { own.old.name ≡ (B.names shard).name → own.old.table ≡ (B.names shard).table }
+        ensures goes { Goes own.old own.new }
+        ensures foreign { own.old.name ≢ (B.names shard).name → (result ≡ Err (record { refusal = Stranger; slip = None })) × (own.new ≡ own.old) × (out.new ≡ out.old) × (handle.new ≡ handle.old) }
+        ensures same { handle.new ≡ record handle.old { cursor = handle.new.cursor } }
+        ensures call { own.old.name ≡ (B.names shard).name → ReadsOn (B.names shard) handle.old handle.new out.old out.new result own.old own.new }
+    {
         at_quarter!(self, shard, [4, 8, 12], read(rt, shard, own, handle, out))
     }
 
@@ -464,7 +462,14 @@ impl<B: ShardNaming, D: BlockDevice, T: Trail> Bytes<B> for Sixteen<B, D, T> {
         own: &mut Seat,
         handle: &mut Handle,
         place: Seek,
-    ) -> Result<(u64, Option<Slip>), Denied> {
+    ) -> Result<(u64, Option<Slip>), Denied>
+        requires at { (shard < 16) × (shard < B.shards) }
+        requires seat { own.old.name ≡ (B.names shard).name → own.old.table ≡ (B.names shard).table }
+        ensures goes { Goes own.old own.new }
+        ensures foreign { own.old.name ≢ (B.names shard).name → (result ≡ Err (record { refusal = Stranger; slip = None })) × (own.new ≡ own.old) × (handle.new ≡ handle.old) }
+        ensures same { handle.new ≡ record handle.old { cursor = handle.new.cursor } }
+        ensures call { own.old.name ≡ (B.names shard).name → Moves (B.names shard) place handle.old handle.new result own.old own.new }
+    {
         at_quarter!(self, shard, [4, 8, 12], seek(rt, shard, own, handle, place))
     }
 
@@ -476,7 +481,13 @@ impl<B: ShardNaming, D: BlockDevice, T: Trail> Bytes<B> for Sixteen<B, D, T> {
         handle: &Handle,
         offset: u64,
         bytes: &[u8],
-    ) -> Result<(Wrote, Slip), Denied> {
+    ) -> Result<(Wrote, Slip), Denied>
+        requires at { (shard < 16) × (shard < B.shards) }
+        requires seat { own.old.name ≡ (B.names shard).name → own.old.table ≡ (B.names shard).table }
+        ensures goes { Goes own.old own.new }
+        ensures foreign { own.old.name ≢ (B.names shard).name → (result ≡ Err (record { refusal = Stranger; slip = None })) × (own.new ≡ own.old) }
+        ensures call { own.old.name ≡ (B.names shard).name → Writes (B.names shard) handle.now offset bytes.now result own.old own.new }
+    {
         at_quarter!(
             self,
             shard,
@@ -492,7 +503,14 @@ impl<B: ShardNaming, D: BlockDevice, T: Trail> Bytes<B> for Sixteen<B, D, T> {
         own: &mut Seat,
         handle: &mut Handle,
         bytes: &[u8],
-    ) -> Result<(Wrote, Slip), Denied> {
+    ) -> Result<(Wrote, Slip), Denied>
+        requires at { (shard < 16) × (shard < B.shards) }
+        requires seat { own.old.name ≡ (B.names shard).name → own.old.table ≡ (B.names shard).table }
+        ensures goes { Goes own.old own.new }
+        ensures foreign { own.old.name ≢ (B.names shard).name → (result ≡ Err (record { refusal = Stranger; slip = None })) × (own.new ≡ own.old) × (handle.new ≡ handle.old) }
+        ensures same { handle.new ≡ record handle.old { cursor = handle.new.cursor } }
+        ensures call { own.old.name ≡ (B.names shard).name → WritesOn (B.names shard) handle.old handle.new bytes.now result own.old own.new }
+    {
         at_quarter!(
             self,
             shard,
@@ -508,7 +526,13 @@ impl<B: ShardNaming, D: BlockDevice, T: Trail> Bytes<B> for Sixteen<B, D, T> {
         own: &mut Seat,
         handle: &Handle,
         size: u64,
-    ) -> Result<Slip, Denied> {
+    ) -> Result<Slip, Denied>
+        requires at { (shard < 16) × (shard < B.shards) }
+        requires seat { own.old.name ≡ (B.names shard).name → own.old.table ≡ (B.names shard).table }
+        ensures goes { Goes own.old own.new }
+        ensures foreign { own.old.name ≢ (B.names shard).name → (result ≡ Err (record { refusal = Stranger; slip = None })) × (own.new ≡ own.old) }
+        ensures call { own.old.name ≡ (B.names shard).name → Cuts (B.names shard) handle.now size result own.old own.new }
+    {
         at_quarter!(
             self,
             shard,
@@ -523,7 +547,13 @@ impl<B: ShardNaming, D: BlockDevice, T: Trail> Bytes<B> for Sixteen<B, D, T> {
         shard: u64,
         own: &mut Seat,
         handle: &Handle,
-    ) -> Result<(u64, Slip), Denied> {
+    ) -> Result<(u64, Slip), Denied>
+        requires at { (shard < 16) × (shard < B.shards) }
+        requires seat { own.old.name ≡ (B.names shard).name → own.old.table ≡ (B.names shard).table }
+        ensures goes { Goes own.old own.new }
+        ensures foreign { own.old.name ≢ (B.names shard).name → (result ≡ Err (record { refusal = Stranger; slip = None })) × (own.new ≡ own.old) }
+        ensures call { own.old.name ≡ (B.names shard).name → Measures (B.names shard) handle.now result own.old own.new }
+    {
         at_quarter!(self, shard, [4, 8, 12], size(rt, shard, own, handle))
     }
 }

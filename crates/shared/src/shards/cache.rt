@@ -194,16 +194,11 @@ impl<R> Rooms<R> {
     }
 }
 
-/// What names the caches of these shards.
-pub(crate) trait Named<B: ShardNaming>: Span {
+impl<B: ShardNaming, D: BlockDevice, T: Trail, const K: u64> Place<B, D, T, K> {
     fn name(&self, shard: u64) -> u64
-        requires whole { Self.whole }
-        requires at { (Self.first ≤ shard) × (shard < Self.end) × (shard < B.shards) }
-        ensures { result ≡ (B.names shard).name };
-}
-
-impl<B: ShardNaming, D: BlockDevice, T: Trail, const K: u64> Named<B> for Place<B, D, T, K> {
-    fn name(&self, _shard: u64) -> u64 {
+        requires at { (K ≤ shard) × (shard < K + 1) × (shard < B.shards) }
+        ensures { result ≡ (B.names shard).name }
+    {
         self.cache().name()
     }
 }
@@ -216,14 +211,21 @@ impl<
     const J: u64,
     const K: u64,
     const L: u64,
-> Named<B> for Four<B, D, T, I, J, K, L> {
-    fn name(&self, shard: u64) -> u64 {
+> Four<B, D, T, I, J, K, L> {
+    fn name(&self, shard: u64) -> u64
+        requires whole { (J ≡ I + 1) × (K ≡ J + 1) × (L ≡ K + 1) }
+        requires at { (I ≤ shard) × (shard < L + 1) × (shard < B.shards) }
+        ensures { result ≡ (B.names shard).name }
+    {
         at_quarter!(self, shard, [J, K, L], name(shard))
     }
 }
 
-impl<B: ShardNaming, D: BlockDevice, T: Trail> Named<B> for Sixteen<B, D, T> {
-    fn name(&self, shard: u64) -> u64 {
+impl<B: ShardNaming, D: BlockDevice, T: Trail> Sixteen<B, D, T> {
+    fn name(&self, shard: u64) -> u64
+        requires at { (shard < 16) × (shard < B.shards) }
+        ensures { result ≡ (B.names shard).name }
+    {
         at_quarter!(self, shard, [4, 8, 12], name(shard))
     }
 }

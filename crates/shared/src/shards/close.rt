@@ -11,7 +11,7 @@ ghost use Rattle.shared.specs.declared.worker.Worker.{Worker};
 
 use crate::shards::cache::ShardedCache;
 use crate::shards::naming::ShardNaming;
-use crate::shards::place::{Four, Place, Sixteen, Span};
+use crate::shards::place::{Four, Place, Sixteen};
 use crate::shards::rows::take_last;
 use crate::shards::seat::ShardSeat;
 use crate::shards::worker::ShardWorker;
@@ -93,8 +93,7 @@ impl<B: ShardNaming, D: BlockDevice, T: Trail> ShardedCache<B, D, T> {
     }
 }
 
-/// Caches of these shards that come to their ends.
-pub(crate) trait Closes<B: ShardNaming, D: BlockDevice, T: Trail>: Span {
+impl<B: ShardNaming, D: BlockDevice, T: Trail + Drop, const K: u64> Place<B, D, T, K> {
     /// Ends the caches of these shards, where there are so many, with the last seats of each caller. What they leave goes before what those
     /// left that follow.
     fn close<R: Wait>(
@@ -104,20 +103,9 @@ pub(crate) trait Closes<B: ShardNaming, D: BlockDevice, T: Trail>: Span {
         seats: &mut Vec<ShardSeat>,
         ends: &mut Ends<D, T>,
     )
-        requires whole { Self.whole }
-        requires ended { (own : List Worker) × (rows : List (List SeatSeen)) × HasAll B.shards B.names own rows × HasEndedFrom Self.end B.shards B.names T.records T.cache D.told own rows workers.old.items seats.old.items ends.old }
-        ensures ended { (own : List Worker) (rows : List (List SeatSeen)) → HasAll B.shards B.names own rows → HasEndedFrom Self.end B.shards B.names T.records T.cache D.told own rows workers.old.items seats.old.items ends.old → HasEndedFrom Self.first B.shards B.names T.records T.cache D.told own rows workers.new.items seats.new.items ends.new };
-}
-
-impl<B: ShardNaming, D: BlockDevice, T: Trail + Drop, const K: u64> Closes<B, D, T>
-    for Place<B, D, T, K> {
-    fn close<R: Wait>(
-        self,
-        rt: &R,
-        workers: &mut Vec<Worker>,
-        seats: &mut Vec<ShardSeat>,
-        ends: &mut Ends<D, T>,
-    ) {
+        requires ended { (own : List Worker) × (rows : List (List SeatSeen)) × HasAll B.shards B.names own rows × HasEndedFrom (K + 1) B.shards B.names T.records T.cache D.told own rows workers.old.items seats.old.items ends.old }
+        ensures ended { (own : List Worker) (rows : List (List SeatSeen)) → HasAll B.shards B.names own rows → HasEndedFrom (K + 1) B.shards B.names T.records T.cache D.told own rows workers.old.items seats.old.items ends.old → HasEndedFrom K B.shards B.names T.records T.cache D.told own rows workers.new.items seats.new.items ends.new }
+    {
         let Place { mut caches } = self;
         let Some(cache) = caches.pop() else {
             return;
@@ -151,7 +139,9 @@ impl<
     const J: u64,
     const K: u64,
     const L: u64,
-> Closes<B, D, T> for Four<B, D, T, I, J, K, L> {
+> Four<B, D, T, I, J, K, L> {
+    /// Ends the caches of these shards, where there are so many, with the last seats of each caller. What they leave goes before what those
+    /// left that follow.
     // the last first
     fn close<R: Wait>(
         self,
@@ -159,7 +149,11 @@ impl<
         workers: &mut Vec<Worker>,
         seats: &mut Vec<ShardSeat>,
         ends: &mut Ends<D, T>,
-    ) {
+    )
+        requires whole { (J ≡ I + 1) × (K ≡ J + 1) × (L ≡ K + 1) }
+        requires ended { (own : List Worker) × (rows : List (List SeatSeen)) × HasAll B.shards B.names own rows × HasEndedFrom (L + 1) B.shards B.names T.records T.cache D.told own rows workers.old.items seats.old.items ends.old }
+        ensures ended { (own : List Worker) (rows : List (List SeatSeen)) → HasAll B.shards B.names own rows → HasEndedFrom (L + 1) B.shards B.names T.records T.cache D.told own rows workers.old.items seats.old.items ends.old → HasEndedFrom I B.shards B.names T.records T.cache D.told own rows workers.new.items seats.new.items ends.new }
+    {
         let Four {
             part_0,
             part_1,
@@ -173,7 +167,9 @@ impl<
     }
 }
 
-impl<B: ShardNaming, D: BlockDevice, T: Trail + Drop> Closes<B, D, T> for Sixteen<B, D, T> {
+impl<B: ShardNaming, D: BlockDevice, T: Trail + Drop> Sixteen<B, D, T> {
+    /// Ends the caches of these shards, where there are so many, with the last seats of each caller. What they leave goes before what those
+    /// left that follow.
     // the last first
     fn close<R: Wait>(
         self,
@@ -181,7 +177,10 @@ impl<B: ShardNaming, D: BlockDevice, T: Trail + Drop> Closes<B, D, T> for Sixtee
         workers: &mut Vec<Worker>,
         seats: &mut Vec<ShardSeat>,
         ends: &mut Ends<D, T>,
-    ) {
+    )
+        requires ended { (own : List Worker) × (rows : List (List SeatSeen)) × HasAll B.shards B.names own rows × HasEndedFrom 16 B.shards B.names T.records T.cache D.told own rows workers.old.items seats.old.items ends.old }
+        ensures ended { (own : List Worker) (rows : List (List SeatSeen)) → HasAll B.shards B.names own rows → HasEndedFrom 16 B.shards B.names T.records T.cache D.told own rows workers.old.items seats.old.items ends.old → HasEndedFrom 0 B.shards B.names T.records T.cache D.told own rows workers.new.items seats.new.items ends.new }
+    {
         let Sixteen {
             part_0,
             part_1,

@@ -1,6 +1,6 @@
 //! What handles are told of failed writes.
 
-ghost use Rattle.std.specs.Prelude.{◌≡◌, ◌≢◌, ◌<◌, ◌≤◌, Err, IfErr, IfOk, Ok, length};
+ghost use Rattle.std.specs.Prelude.{◌≡◌, ◌+◌, ◌≢◌, ◌<◌, ◌≤◌, Err, IfErr, IfOk, Ok, length};
 ghost use Rattle.errboard.specs.Views.{told_of};
 ghost use Rattle.pc_types.specs.declared.refusal.Refusal.TheVariants.{BadHandle};
 ghost use Rattle.shared.specs.Polls.{Polled};
@@ -9,21 +9,22 @@ use crate::handle::{FailedWrite, Handle};
 use crate::shards::cache::ShardedCache;
 use crate::shards::handle::ShardHandle;
 use crate::shards::naming::ShardNaming;
-use crate::shards::place::{Four, Place, Sixteen, Span, at_quarter};
+use crate::shards::place::{Four, Place, Sixteen, at_quarter};
 use blockdev::BlockDevice;
 use pc_types::{ErrCode, Refusal};
 use trail::Trail;
 
-/// What handles of one of these shards are told.
-pub(crate) trait Errors<B: ShardNaming>: Span {
+impl<B: ShardNaming, D: BlockDevice, T: Trail, const K: u64> Place<B, D, T, K> {
     fn poll_error(&self, shard: u64, handle: &mut Handle) -> Result<Option<ErrCode>, Refusal>
-        requires whole { Self.whole }
-        requires at { (Self.first ≤ shard) × (shard < Self.end) × (shard < B.shards) }
+        requires at { (K ≤ shard) × (shard < K + 1) × (shard < B.shards) }
         requires came { handle.old.cache ≡ (B.names shard).name → handle.old.pass.board ≡ (B.names shard).board }
         ensures foreign { handle.old.cache ≢ (B.names shard).name → (result ≡ Err BadHandle) × (handle.new ≡ handle.old) }
         ensures answers { handle.old.cache ≡ (B.names shard).name → IfErr result (λ _. ⊥) }
         ensures same { handle.new ≡ record handle.old { pass = handle.new.pass } }
-        ensures polled { IfOk result (Polled handle.old.pass handle.new.pass) };
+        ensures polled { IfOk result (Polled handle.old.pass handle.new.pass) }
+    {
+        self.cache().poll_error(handle)
+    }
 
     fn tell_error(
         &self,
@@ -31,8 +32,7 @@ pub(crate) trait Errors<B: ShardNaming>: Span {
         handle: &mut Handle,
         failed: &mut FailedWrite,
     ) -> Result<(), Refusal>
-        requires whole { Self.whole }
-        requires at { (Self.first ≤ shard) × (shard < Self.end) × (shard < B.shards) }
+        requires at { (K ≤ shard) × (shard < K + 1) × (shard < B.shards) }
         requires came { handle.old.cache ≡ (B.names shard).name → handle.old.pass.board ≡ (B.names shard).board }
         requires failed { failed.old.cache ≡ (B.names shard).name → failed.old.receipt.board ≡ (B.names shard).board }
         ensures foreign { handle.old.cache ≢ (B.names shard).name → (result ≡ Err BadHandle) × (handle.new ≡ handle.old) }
@@ -40,20 +40,8 @@ pub(crate) trait Errors<B: ShardNaming>: Span {
         ensures other { failed.old.cache ≢ (B.names shard).name → handle.new ≡ handle.old }
         ensures told { handle.old.cache ≡ (B.names shard).name → failed.old.cache ≡ (B.names shard).name → handle.new ≡ record handle.old { pass = record handle.old.pass { known = told_of handle.old.file.0 handle.old.pass.known failed.old.receipt.file failed.old.receipt.recorded } } }
         ensures knows { handle.old.cache ≡ (B.names shard).name → failed.old.cache ≡ (B.names shard).name → failed.old.receipt.file ≡ handle.old.file.0 → length failed.old.receipt.recorded ≤ length handle.new.pass.known }
-        ensures failed { failed.new ≡ failed.old };
-}
-
-impl<B: ShardNaming, D: BlockDevice, T: Trail, const K: u64> Errors<B> for Place<B, D, T, K> {
-    fn poll_error(&self, _shard: u64, handle: &mut Handle) -> Result<Option<ErrCode>, Refusal> {
-        self.cache().poll_error(handle)
-    }
-
-    fn tell_error(
-        &self,
-        _shard: u64,
-        handle: &mut Handle,
-        failed: &mut FailedWrite,
-    ) -> Result<(), Refusal> {
+        ensures failed { failed.new ≡ failed.old }
+    {
         self.cache().tell_error(handle, failed)
     }
 }
@@ -66,8 +54,16 @@ impl<
     const J: u64,
     const K: u64,
     const L: u64,
-> Errors<B> for Four<B, D, T, I, J, K, L> {
-    fn poll_error(&self, shard: u64, handle: &mut Handle) -> Result<Option<ErrCode>, Refusal> {
+> Four<B, D, T, I, J, K, L> {
+    fn poll_error(&self, shard: u64, handle: &mut Handle) -> Result<Option<ErrCode>, Refusal>
+        requires whole { (J ≡ I + 1) × (K ≡ J + 1) × (L ≡ K + 1) }
+        requires at { (I ≤ shard) × (shard < L + 1) × (shard < B.shards) }
+        requires came { handle.old.cache ≡ (B.names shard).name → handle.old.pass.board ≡ (B.names shard).board }
+        ensures foreign { handle.old.cache ≢ (B.names shard).name → (result ≡ Err BadHandle) × (handle.new ≡ handle.old) }
+        ensures answers { handle.old.cache ≡ (B.names shard).name → IfErr result (λ _. ⊥) }
+        ensures same { handle.new ≡ record handle.old { pass = handle.new.pass } }
+        ensures polled { IfOk result (Polled handle.old.pass handle.new.pass) }
+    {
         at_quarter!(self, shard, [J, K, L], poll_error(shard, handle))
     }
 
@@ -76,13 +72,31 @@ impl<
         shard: u64,
         handle: &mut Handle,
         failed: &mut FailedWrite,
-    ) -> Result<(), Refusal> {
+    ) -> Result<(), Refusal>
+        requires whole { (J ≡ I + 1) × (K ≡ J + 1) × (L ≡ K + 1) }
+        requires at { (I ≤ shard) × (shard < L + 1) × (shard < B.shards) }
+        requires came { handle.old.cache ≡ (B.names shard).name → handle.old.pass.board ≡ (B.names shard).board }
+        requires failed { failed.old.cache ≡ (B.names shard).name → failed.old.receipt.board ≡ (B.names shard).board }
+        ensures foreign { handle.old.cache ≢ (B.names shard).name → (result ≡ Err BadHandle) × (handle.new ≡ handle.old) }
+        ensures answers { handle.old.cache ≡ (B.names shard).name → result ≡ Ok tt }
+        ensures other { failed.old.cache ≢ (B.names shard).name → handle.new ≡ handle.old }
+        ensures told { handle.old.cache ≡ (B.names shard).name → failed.old.cache ≡ (B.names shard).name → handle.new ≡ record handle.old { pass = record handle.old.pass { known = told_of handle.old.file.0 handle.old.pass.known failed.old.receipt.file failed.old.receipt.recorded } } }
+        ensures knows { handle.old.cache ≡ (B.names shard).name → failed.old.cache ≡ (B.names shard).name → failed.old.receipt.file ≡ handle.old.file.0 → length failed.old.receipt.recorded ≤ length handle.new.pass.known }
+        ensures failed { failed.new ≡ failed.old }
+    {
         at_quarter!(self, shard, [J, K, L], tell_error(shard, handle, failed))
     }
 }
 
-impl<B: ShardNaming, D: BlockDevice, T: Trail> Errors<B> for Sixteen<B, D, T> {
-    fn poll_error(&self, shard: u64, handle: &mut Handle) -> Result<Option<ErrCode>, Refusal> {
+impl<B: ShardNaming, D: BlockDevice, T: Trail> Sixteen<B, D, T> {
+    fn poll_error(&self, shard: u64, handle: &mut Handle) -> Result<Option<ErrCode>, Refusal>
+        requires at { (shard < 16) × (shard < B.shards) }
+        requires came { handle.old.cache ≡ (B.names shard).name → handle.old.pass.board ≡ (B.names shard).board }
+        ensures foreign { handle.old.cache ≢ (B.names shard).name → (result ≡ Err BadHandle) × (handle.new ≡ handle.old) }
+        ensures answers { handle.old.cache ≡ (B.names shard).name → IfErr result (λ _. ⊥) }
+        ensures same { handle.new ≡ record handle.old { pass = handle.new.pass } }
+        ensures polled { IfOk result (Polled handle.old.pass handle.new.pass) }
+    {
         at_quarter!(self, shard, [4, 8, 12], poll_error(shard, handle))
     }
 
@@ -91,7 +105,17 @@ impl<B: ShardNaming, D: BlockDevice, T: Trail> Errors<B> for Sixteen<B, D, T> {
         shard: u64,
         handle: &mut Handle,
         failed: &mut FailedWrite,
-    ) -> Result<(), Refusal> {
+    ) -> Result<(), Refusal>
+        requires at { (shard < 16) × (shard < B.shards) }
+        requires came { handle.old.cache ≡ (B.names shard).name → handle.old.pass.board ≡ (B.names shard).board }
+        requires failed { failed.old.cache ≡ (B.names shard).name → failed.old.receipt.board ≡ (B.names shard).board }
+        ensures foreign { handle.old.cache ≢ (B.names shard).name → (result ≡ Err BadHandle) × (handle.new ≡ handle.old) }
+        ensures answers { handle.old.cache ≡ (B.names shard).name → result ≡ Ok tt }
+        ensures other { failed.old.cache ≢ (B.names shard).name → handle.new ≡ handle.old }
+        ensures told { handle.old.cache ≡ (B.names shard).name → failed.old.cache ≡ (B.names shard).name → handle.new ≡ record handle.old { pass = record handle.old.pass { known = told_of handle.old.file.0 handle.old.pass.known failed.old.receipt.file failed.old.receipt.recorded } } }
+        ensures knows { handle.old.cache ≡ (B.names shard).name → failed.old.cache ≡ (B.names shard).name → failed.old.receipt.file ≡ handle.old.file.0 → length failed.old.receipt.recorded ≤ length handle.new.pass.known }
+        ensures failed { failed.new ≡ failed.old }
+    {
         at_quarter!(self, shard, [4, 8, 12], tell_error(shard, handle, failed))
     }
 }

@@ -1,6 +1,6 @@
 //! Files and handles.
 
-ghost use Rattle.std.specs.Prelude.{◌≡◌, ◌≢◌, ◌/◌, ◌%◌, ◌<◌, ◌≤◌, Err, IfErr, IfNone, IfOk, IfSome, None, Result, Some, false, true};
+ghost use Rattle.std.specs.Prelude.{◌≡◌, ◌+◌, ◌≢◌, ◌/◌, ◌%◌, ◌<◌, ◌≤◌, Err, IfErr, IfNone, IfOk, IfSome, None, Result, Some, false, true};
 ghost use Rattle.atomic_table.specs.Seated.{TableId};
 ghost use Rattle.held.specs.Called.{Goes};
 ghost use Rattle.held.specs.declared.denied.Denied.{Denied};
@@ -18,7 +18,7 @@ use crate::shards::cache::ShardedCache;
 use crate::shards::denied::CreateDenied;
 use crate::shards::handle::ShardHandle;
 use crate::shards::naming::{Shard, ShardNaming};
-use crate::shards::place::{Four, Place, Sixteen, Span, at_quarter};
+use crate::shards::place::{Four, Place, Sixteen, at_quarter};
 use crate::shards::seat::ShardSeat;
 use blockdev::BlockDevice;
 use held::denied::{Denied, without_slip};
@@ -32,6 +32,7 @@ impl<B: ShardNaming, D: BlockDevice, T: Trail, const K: u64> SharedCache<Shard<B
         requires seat { own.old.name ≡ (B.names K).name → own.old.table ≡ (B.names K).table }
         ensures goes { Goes own.old own.new }
         ensures foreign { own.old.name ≢ (B.names K).name → (result ≡ Err (record { refusal = Stranger; slip = None })) × (own.new ≡ own.old) }
+        ensures few { IfOk result (λ r. r.0.0 < 64) }
         ensures call { own.old.name ≡ (B.names K).name → Creates (B.names K) result own.old own.new }
     {
         self.create(rt, own)
@@ -70,15 +71,17 @@ impl<B: ShardNaming, D: BlockDevice, T: Trail, const K: u64> SharedCache<Shard<B
     }
 }
 
-/// Files of one of these shards, and their handles.
-pub(crate) trait Files<B: ShardNaming>: Span {
+impl<B: ShardNaming, D: BlockDevice, T: Trail, const K: u64> Place<B, D, T, K> {
     fn create<R: Wait>(&self, rt: &R, shard: u64, own: &mut Seat) -> Result<(FileId, Slip), Denied>
-        requires whole { Self.whole }
-        requires at { (Self.first ≤ shard) × (shard < Self.end) × (shard < B.shards) }
+        requires at { (K ≤ shard) × (shard < K + 1) × (shard < B.shards) }
         requires seat { own.old.name ≡ (B.names shard).name → own.old.table ≡ (B.names shard).table }
         ensures goes { Goes own.old own.new }
         ensures foreign { own.old.name ≢ (B.names shard).name → (result ≡ Err (record { refusal = Stranger; slip = None })) × (own.new ≡ own.old) }
-        ensures call { own.old.name ≡ (B.names shard).name → Creates (B.names shard) result own.old own.new };
+        ensures few { IfOk result (λ r. r.0.0 < 64) }
+        ensures call { own.old.name ≡ (B.names shard).name → Creates (B.names shard) result own.old own.new }
+    {
+        self.cache().create_in(rt, own)
+    }
 
     fn open<R: Wait>(
         &self,
@@ -88,13 +91,15 @@ pub(crate) trait Files<B: ShardNaming>: Span {
         file: FileId,
         append: bool,
     ) -> Result<(Handle, Slip), Denied>
-        requires whole { Self.whole }
-        requires at { (Self.first ≤ shard) × (shard < Self.end) × (shard < B.shards) }
+        requires at { (K ≤ shard) × (shard < K + 1) × (shard < B.shards) }
         requires seat { own.old.name ≡ (B.names shard).name → own.old.table ≡ (B.names shard).table }
         ensures goes { Goes own.old own.new }
         ensures foreign { own.old.name ≢ (B.names shard).name → (result ≡ Err (record { refusal = Stranger; slip = None })) × (own.new ≡ own.old) }
         ensures board { IfOk result (λ r. r.0.pass.board ≡ (B.names shard).board) }
-        ensures call { own.old.name ≡ (B.names shard).name → Opens (B.names shard) file append result own.old own.new };
+        ensures call { own.old.name ≡ (B.names shard).name → Opens (B.names shard) file append result own.old own.new }
+    {
+        self.cache().open_in(rt, own, file, append)
+    }
 
     fn close_handle<R: Wait>(
         &self,
@@ -103,44 +108,14 @@ pub(crate) trait Files<B: ShardNaming>: Span {
         own: &mut Seat,
         handle: Handle,
     ) -> Result<Slip, (Denied, Handle)>
-        requires whole { Self.whole }
-        requires at { (Self.first ≤ shard) × (shard < Self.end) × (shard < B.shards) }
+        requires at { (K ≤ shard) × (shard < K + 1) × (shard < B.shards) }
         requires seat { own.old.name ≡ (B.names shard).name → own.old.table ≡ (B.names shard).table }
         requires came { handle.cache ≡ (B.names shard).name → handle.pass.board ≡ (B.names shard).board }
         ensures goes { Goes own.old own.new }
         ensures foreign { own.old.name ≢ (B.names shard).name → (result ≡ Err (record { refusal = Stranger; slip = None }, handle)) × (own.new ≡ own.old) }
         ensures call { own.old.name ≡ (B.names shard).name → Closes (B.names shard) handle result own.old own.new }
-        ensures back { IfErr result (λ d. d.1 ≡ handle) };
-}
-
-impl<B: ShardNaming, D: BlockDevice, T: Trail, const K: u64> Files<B> for Place<B, D, T, K> {
-    fn create<R: Wait>(
-        &self,
-        rt: &R,
-        _shard: u64,
-        own: &mut Seat,
-    ) -> Result<(FileId, Slip), Denied> {
-        self.cache().create_in(rt, own)
-    }
-
-    fn open<R: Wait>(
-        &self,
-        rt: &R,
-        _shard: u64,
-        own: &mut Seat,
-        file: FileId,
-        append: bool,
-    ) -> Result<(Handle, Slip), Denied> {
-        self.cache().open_in(rt, own, file, append)
-    }
-
-    fn close_handle<R: Wait>(
-        &self,
-        rt: &R,
-        _shard: u64,
-        own: &mut Seat,
-        handle: Handle,
-    ) -> Result<Slip, (Denied, Handle)> {
+        ensures back { IfErr result (λ d. d.1 ≡ handle) }
+    {
         self.cache().close_handle_in(rt, own, handle)
     }
 }
@@ -153,13 +128,16 @@ impl<
     const J: u64,
     const K: u64,
     const L: u64,
-> Files<B> for Four<B, D, T, I, J, K, L> {
-    fn create<R: Wait>(
-        &self,
-        rt: &R,
-        shard: u64,
-        own: &mut Seat,
-    ) -> Result<(FileId, Slip), Denied> {
+> Four<B, D, T, I, J, K, L> {
+    fn create<R: Wait>(&self, rt: &R, shard: u64, own: &mut Seat) -> Result<(FileId, Slip), Denied>
+        requires whole { (J ≡ I + 1) × (K ≡ J + 1) × (L ≡ K + 1) }
+        requires at { (I ≤ shard) × (shard < L + 1) × (shard < B.shards) }
+        requires seat { own.old.name ≡ (B.names shard).name → own.old.table ≡ (B.names shard).table }
+        ensures goes { Goes own.old own.new }
+        ensures foreign { own.old.name ≢ (B.names shard).name → (result ≡ Err (record { refusal = Stranger; slip = None })) × (own.new ≡ own.old) }
+        ensures few { IfOk result (λ r. r.0.0 < 64) }
+        ensures call { own.old.name ≡ (B.names shard).name → Creates (B.names shard) result own.old own.new }
+    {
         at_quarter!(self, shard, [J, K, L], create(rt, shard, own))
     }
 
@@ -170,7 +148,15 @@ impl<
         own: &mut Seat,
         file: FileId,
         append: bool,
-    ) -> Result<(Handle, Slip), Denied> {
+    ) -> Result<(Handle, Slip), Denied>
+        requires whole { (J ≡ I + 1) × (K ≡ J + 1) × (L ≡ K + 1) }
+        requires at { (I ≤ shard) × (shard < L + 1) × (shard < B.shards) }
+        requires seat { own.old.name ≡ (B.names shard).name → own.old.table ≡ (B.names shard).table }
+        ensures goes { Goes own.old own.new }
+        ensures foreign { own.old.name ≢ (B.names shard).name → (result ≡ Err (record { refusal = Stranger; slip = None })) × (own.new ≡ own.old) }
+        ensures board { IfOk result (λ r. r.0.pass.board ≡ (B.names shard).board) }
+        ensures call { own.old.name ≡ (B.names shard).name → Opens (B.names shard) file append result own.old own.new }
+    {
         at_quarter!(self, shard, [J, K, L], open(rt, shard, own, file, append))
     }
 
@@ -180,18 +166,29 @@ impl<
         shard: u64,
         own: &mut Seat,
         handle: Handle,
-    ) -> Result<Slip, (Denied, Handle)> {
+    ) -> Result<Slip, (Denied, Handle)>
+        requires whole { (J ≡ I + 1) × (K ≡ J + 1) × (L ≡ K + 1) }
+        requires at { (I ≤ shard) × (shard < L + 1) × (shard < B.shards) }
+        requires seat { own.old.name ≡ (B.names shard).name → own.old.table ≡ (B.names shard).table }
+        requires came { handle.cache ≡ (B.names shard).name → handle.pass.board ≡ (B.names shard).board }
+        ensures goes { Goes own.old own.new }
+        ensures foreign { own.old.name ≢ (B.names shard).name → (result ≡ Err (record { refusal = Stranger; slip = None }, handle)) × (own.new ≡ own.old) }
+        ensures call { own.old.name ≡ (B.names shard).name → Closes (B.names shard) handle result own.old own.new }
+        ensures back { IfErr result (λ d. d.1 ≡ handle) }
+    {
         at_quarter!(self, shard, [J, K, L], close_handle(rt, shard, own, handle))
     }
 }
 
-impl<B: ShardNaming, D: BlockDevice, T: Trail> Files<B> for Sixteen<B, D, T> {
-    fn create<R: Wait>(
-        &self,
-        rt: &R,
-        shard: u64,
-        own: &mut Seat,
-    ) -> Result<(FileId, Slip), Denied> {
+impl<B: ShardNaming, D: BlockDevice, T: Trail> Sixteen<B, D, T> {
+    fn create<R: Wait>(&self, rt: &R, shard: u64, own: &mut Seat) -> Result<(FileId, Slip), Denied>
+        requires at { (shard < 16) × (shard < B.shards) }
+        requires seat { own.old.name ≡ (B.names shard).name → own.old.table ≡ (B.names shard).table }
+        ensures goes { Goes own.old own.new }
+        ensures foreign { own.old.name ≢ (B.names shard).name → (result ≡ Err (record { refusal = Stranger; slip = None })) × (own.new ≡ own.old) }
+        ensures few { IfOk result (λ r. r.0.0 < 64) }
+        ensures call { own.old.name ≡ (B.names shard).name → Creates (B.names shard) result own.old own.new }
+    {
         at_quarter!(self, shard, [4, 8, 12], create(rt, shard, own))
     }
 
@@ -202,7 +199,14 @@ impl<B: ShardNaming, D: BlockDevice, T: Trail> Files<B> for Sixteen<B, D, T> {
         own: &mut Seat,
         file: FileId,
         append: bool,
-    ) -> Result<(Handle, Slip), Denied> {
+    ) -> Result<(Handle, Slip), Denied>
+        requires at { (shard < 16) × (shard < B.shards) }
+        requires seat { own.old.name ≡ (B.names shard).name → own.old.table ≡ (B.names shard).table }
+        ensures goes { Goes own.old own.new }
+        ensures foreign { own.old.name ≢ (B.names shard).name → (result ≡ Err (record { refusal = Stranger; slip = None })) × (own.new ≡ own.old) }
+        ensures board { IfOk result (λ r. r.0.pass.board ≡ (B.names shard).board) }
+        ensures call { own.old.name ≡ (B.names shard).name → Opens (B.names shard) file append result own.old own.new }
+    {
         at_quarter!(self, shard, [4, 8, 12], open(rt, shard, own, file, append))
     }
 
@@ -212,7 +216,15 @@ impl<B: ShardNaming, D: BlockDevice, T: Trail> Files<B> for Sixteen<B, D, T> {
         shard: u64,
         own: &mut Seat,
         handle: Handle,
-    ) -> Result<Slip, (Denied, Handle)> {
+    ) -> Result<Slip, (Denied, Handle)>
+        requires at { (shard < 16) × (shard < B.shards) }
+        requires seat { own.old.name ≡ (B.names shard).name → own.old.table ≡ (B.names shard).table }
+        requires came { handle.cache ≡ (B.names shard).name → handle.pass.board ≡ (B.names shard).board }
+        ensures goes { Goes own.old own.new }
+        ensures foreign { own.old.name ≢ (B.names shard).name → (result ≡ Err (record { refusal = Stranger; slip = None }, handle)) × (own.new ≡ own.old) }
+        ensures call { own.old.name ≡ (B.names shard).name → Closes (B.names shard) handle result own.old own.new }
+        ensures back { IfErr result (λ d. d.1 ≡ handle) }
+    {
         at_quarter!(
             self,
             shard,
@@ -235,6 +247,7 @@ impl<B: ShardNaming, D: BlockDevice, T: Trail> ShardedCache<B, D, T> {
         ensures foreign { shard < B.shards → is_of (B.names shard).name seat.old shard ≡ false → (result ≡ Err (ByShard (record { refusal = Stranger; slip = None }))) × (seat.new ≡ seat.old) }
         ensures others { OnlyAt shard seat.old seat.new }
         ensures seated { AreSeated B.names seat.new }
+        ensures stands { IfOk result (λ r. r.0.0 % B.shards ≡ shard) }
         ensures call { shard < B.shards → is_of (B.names shard).name seat.old shard ≡ true → (r : Result (FileId × Slip) Denied) × Creates (B.names shard) r (part seat.old shard) (part seat.new shard) × (result ≡ numbered B.shards shard r) }
     {
         match self.create_at(rt, seat, shard) {
@@ -254,6 +267,7 @@ impl<B: ShardNaming, D: BlockDevice, T: Trail> ShardedCache<B, D, T> {
         requires seat { AreSeated B.names seat.old }
         ensures absent { IfNone result ((B.shards ≤ shard) × (seat.new ≡ seat.old)) }
         ensures there { IfSome result (λ _. shard < B.shards) }
+        ensures few { IfSome result (λ r. IfOk r (λ x. x.0.0 < 64)) }
         ensures foreign { is_of (B.names shard).name seat.old shard ≡ false → IfSome result (λ r. (r ≡ Err (record { refusal = Stranger; slip = None })) × (seat.new ≡ seat.old)) }
         ensures others { OnlyAt shard seat.old seat.new }
         ensures seated { AreSeated B.names seat.new }

@@ -192,6 +192,13 @@ pub struct Unmade<D: BlockDevice, T: Trail> {
 }
 
 impl<D: BlockDevice, T: Trail> ShardParts<D, T> {
+    /// The parts of each shard's cache, in order, where no cache is made of them: `OneParts::into_device` gives the device back.
+    pub fn into_parts(self) -> Vec<OneParts<D, T>>
+        ensures { result.items ≡ self }
+    {
+        self.parts
+    }
+
     /// How many shards it is for.
     pub(crate) fn count(&self) -> u64
         ensures { result ≡ length self.now }

@@ -1,6 +1,6 @@
 //! Where the files of a shard stand on its device.
 
-ghost use Rattle.std.specs.Prelude.{◌≡◌, ◌≢◌, ◌/◌, ◌%◌, ◌<◌, ◌≤◌, Err, false, true};
+ghost use Rattle.std.specs.Prelude.{◌≡◌, ◌+◌, ◌≢◌, ◌/◌, ◌%◌, ◌<◌, ◌≤◌, Err, false, true};
 ghost use Rattle.cachecore.specs.Standing.{SpotIs};
 ghost use Rattle.held.specs.Called.{Goes};
 ghost use Rattle.pc_types.specs.declared.refusal.Refusal.TheVariants.{NoSuchFile, Stranger};
@@ -10,7 +10,7 @@ ghost use Rattle.shared.specs.ShardSeats.{AreSeated, OnlyAt, is_of, part};
 use crate::cache::SharedCache;
 use crate::shards::cache::ShardedCache;
 use crate::shards::naming::{Shard, ShardNaming};
-use crate::shards::place::{Four, Place, Sixteen, Span, at_quarter};
+use crate::shards::place::{Four, Place, Sixteen, at_quarter};
 use crate::shards::seat::ShardSeat;
 use blockdev::BlockDevice;
 use cachecore::Placed;
@@ -46,8 +46,7 @@ impl<B: ShardNaming, D: BlockDevice, T: Trail, const K: u64> SharedCache<Shard<B
     }
 }
 
-/// Where files of one of these shards stand.
-pub(crate) trait Stands<B: ShardNaming>: Span {
+impl<B: ShardNaming, D: BlockDevice, T: Trail, const K: u64> Place<B, D, T, K> {
     fn block_of<R: Wait>(
         &self,
         rt: &R,
@@ -56,35 +55,22 @@ pub(crate) trait Stands<B: ShardNaming>: Span {
         file: FileId,
         page: PageIndex,
     ) -> Result<Option<Placed>, Refusal>
-        requires whole { Self.whole }
-        requires at { (Self.first ≤ shard) × (shard < Self.end) × (shard < B.shards) }
+        requires at { (K ≤ shard) × (shard < K + 1) × (shard < B.shards) }
         requires seat { own.old.name ≡ (B.names shard).name → own.old.table ≡ (B.names shard).table }
         ensures goes { Goes own.old own.new }
         ensures foreign { own.old.name ≢ (B.names shard).name → (result ≡ Err Stranger) × (own.new ≡ own.old) }
-        ensures call { own.old.name ≡ (B.names shard).name → Places (B.names shard) (λ s. SpotIs s file.0 page.0 result) own.old own.new };
-
-    fn catalog<R: Wait>(&self, rt: &R, shard: u64, own: &mut Seat) -> Result<Catalog, Refusal>
-        requires whole { Self.whole }
-        requires at { (Self.first ≤ shard) × (shard < Self.end) × (shard < B.shards) }
-        requires seat { own.old.name ≡ (B.names shard).name → own.old.table ≡ (B.names shard).table }
-        ensures goes { Goes own.old own.new }
-        ensures foreign { own.old.name ≢ (B.names shard).name → (result ≡ Err Stranger) × (own.new ≡ own.old) }
-        ensures call { own.old.name ≡ (B.names shard).name → Lists (B.names shard) result own.old own.new };
-}
-
-impl<B: ShardNaming, D: BlockDevice, T: Trail, const K: u64> Stands<B> for Place<B, D, T, K> {
-    fn block_of<R: Wait>(
-        &self,
-        rt: &R,
-        _shard: u64,
-        own: &mut Seat,
-        file: FileId,
-        page: PageIndex,
-    ) -> Result<Option<Placed>, Refusal> {
+        ensures call { own.old.name ≡ (B.names shard).name → Places (B.names shard) (λ s. SpotIs s file.0 page.0 result) own.old own.new }
+    {
         self.cache().block_of_in(rt, own, file, page)
     }
 
-    fn catalog<R: Wait>(&self, rt: &R, _shard: u64, own: &mut Seat) -> Result<Catalog, Refusal> {
+    fn catalog<R: Wait>(&self, rt: &R, shard: u64, own: &mut Seat) -> Result<Catalog, Refusal>
+        requires at { (K ≤ shard) × (shard < K + 1) × (shard < B.shards) }
+        requires seat { own.old.name ≡ (B.names shard).name → own.old.table ≡ (B.names shard).table }
+        ensures goes { Goes own.old own.new }
+        ensures foreign { own.old.name ≢ (B.names shard).name → (result ≡ Err Stranger) × (own.new ≡ own.old) }
+        ensures call { own.old.name ≡ (B.names shard).name → Lists (B.names shard) result own.old own.new }
+    {
         self.cache().catalog_in(rt, own)
     }
 }
@@ -97,7 +83,7 @@ impl<
     const J: u64,
     const K: u64,
     const L: u64,
-> Stands<B> for Four<B, D, T, I, J, K, L> {
+> Four<B, D, T, I, J, K, L> {
     fn block_of<R: Wait>(
         &self,
         rt: &R,
@@ -105,16 +91,30 @@ impl<
         own: &mut Seat,
         file: FileId,
         page: PageIndex,
-    ) -> Result<Option<Placed>, Refusal> {
+    ) -> Result<Option<Placed>, Refusal>
+        requires whole { (J ≡ I + 1) × (K ≡ J + 1) × (L ≡ K + 1) }
+        requires at { (I ≤ shard) × (shard < L + 1) × (shard < B.shards) }
+        requires seat { own.old.name ≡ (B.names shard).name → own.old.table ≡ (B.names shard).table }
+        ensures goes { Goes own.old own.new }
+        ensures foreign { own.old.name ≢ (B.names shard).name → (result ≡ Err Stranger) × (own.new ≡ own.old) }
+        ensures call { own.old.name ≡ (B.names shard).name → Places (B.names shard) (λ s. SpotIs s file.0 page.0 result) own.old own.new }
+    {
         at_quarter!(self, shard, [J, K, L], block_of(rt, shard, own, file, page))
     }
 
-    fn catalog<R: Wait>(&self, rt: &R, shard: u64, own: &mut Seat) -> Result<Catalog, Refusal> {
+    fn catalog<R: Wait>(&self, rt: &R, shard: u64, own: &mut Seat) -> Result<Catalog, Refusal>
+        requires whole { (J ≡ I + 1) × (K ≡ J + 1) × (L ≡ K + 1) }
+        requires at { (I ≤ shard) × (shard < L + 1) × (shard < B.shards) }
+        requires seat { own.old.name ≡ (B.names shard).name → own.old.table ≡ (B.names shard).table }
+        ensures goes { Goes own.old own.new }
+        ensures foreign { own.old.name ≢ (B.names shard).name → (result ≡ Err Stranger) × (own.new ≡ own.old) }
+        ensures call { own.old.name ≡ (B.names shard).name → Lists (B.names shard) result own.old own.new }
+    {
         at_quarter!(self, shard, [J, K, L], catalog(rt, shard, own))
     }
 }
 
-impl<B: ShardNaming, D: BlockDevice, T: Trail> Stands<B> for Sixteen<B, D, T> {
+impl<B: ShardNaming, D: BlockDevice, T: Trail> Sixteen<B, D, T> {
     fn block_of<R: Wait>(
         &self,
         rt: &R,
@@ -122,7 +122,13 @@ impl<B: ShardNaming, D: BlockDevice, T: Trail> Stands<B> for Sixteen<B, D, T> {
         own: &mut Seat,
         file: FileId,
         page: PageIndex,
-    ) -> Result<Option<Placed>, Refusal> {
+    ) -> Result<Option<Placed>, Refusal>
+        requires at { (shard < 16) × (shard < B.shards) }
+        requires seat { own.old.name ≡ (B.names shard).name → own.old.table ≡ (B.names shard).table }
+        ensures goes { Goes own.old own.new }
+        ensures foreign { own.old.name ≢ (B.names shard).name → (result ≡ Err Stranger) × (own.new ≡ own.old) }
+        ensures call { own.old.name ≡ (B.names shard).name → Places (B.names shard) (λ s. SpotIs s file.0 page.0 result) own.old own.new }
+    {
         at_quarter!(
             self,
             shard,
@@ -131,7 +137,13 @@ impl<B: ShardNaming, D: BlockDevice, T: Trail> Stands<B> for Sixteen<B, D, T> {
         )
     }
 
-    fn catalog<R: Wait>(&self, rt: &R, shard: u64, own: &mut Seat) -> Result<Catalog, Refusal> {
+    fn catalog<R: Wait>(&self, rt: &R, shard: u64, own: &mut Seat) -> Result<Catalog, Refusal>
+        requires at { (shard < 16) × (shard < B.shards) }
+        requires seat { own.old.name ≡ (B.names shard).name → own.old.table ≡ (B.names shard).table }
+        ensures goes { Goes own.old own.new }
+        ensures foreign { own.old.name ≢ (B.names shard).name → (result ≡ Err Stranger) × (own.new ≡ own.old) }
+        ensures call { own.old.name ≡ (B.names shard).name → Lists (B.names shard) result own.old own.new }
+    {
         at_quarter!(self, shard, [4, 8, 12], catalog(rt, shard, own))
     }
 }

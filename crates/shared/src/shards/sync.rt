@@ -1,6 +1,6 @@
 //! Fsync, of a file or of a range of its pages.
 
-ghost use Rattle.std.specs.Prelude.{◌≡◌, ◌≢◌, ◌<◌, ◌≤◌, Err, None, false, true};
+ghost use Rattle.std.specs.Prelude.{◌≡◌, ◌+◌, ◌≢◌, ◌<◌, ◌≤◌, Err, None, false, true};
 ghost use Rattle.pc_types.specs.declared.limits.TheConstants.{LAST_PAGE};
 ghost use Rattle.pc_types.specs.declared.refusal.Refusal.TheVariants.{BadHandle, Stranger};
 ghost use Rattle.held.specs.Called.{Goes};
@@ -13,7 +13,7 @@ use crate::handle::Handle;
 use crate::shards::cache::ShardedCache;
 use crate::shards::handle::ShardHandle;
 use crate::shards::naming::{Shard, ShardNaming};
-use crate::shards::place::{Four, Place, Sixteen, Span, at_quarter};
+use crate::shards::place::{Four, Place, Sixteen, at_quarter};
 use crate::shards::seat::ShardSeat;
 use blockdev::BlockDevice;
 use held::denied::{Denied, without_slip};
@@ -85,8 +85,7 @@ impl<B: ShardNaming, D: BlockDevice, T: Trail, const K: u64> SharedCache<Shard<B
     }
 }
 
-/// Fsyncs of files of one of these shards.
-pub(crate) trait Syncs<B: ShardNaming, D: BlockDevice>: Span {
+impl<B: ShardNaming, D: BlockDevice, T: Trail, const K: u64> Place<B, D, T, K> {
     fn fsync_range<R: Wait>(
         &self,
         rt: &R,
@@ -96,26 +95,14 @@ pub(crate) trait Syncs<B: ShardNaming, D: BlockDevice>: Span {
         first: PageIndex,
         last: PageIndex,
     ) -> Result<ShardDurable<B, D>, Denied>
-        requires whole { Self.whole }
-        requires at { (Self.first ≤ shard) × (shard < Self.end) × (shard < B.shards) }
+        requires at { (K ≤ shard) × (shard < K + 1) × (shard < B.shards) }
         requires seat { own.old.name ≡ (B.names shard).name → own.old.table ≡ (B.names shard).table }
         requires came { handle.old.cache ≡ (B.names shard).name → handle.old.pass.board ≡ (B.names shard).board }
         ensures goes { Goes own.old own.new }
         ensures foreign { own.old.name ≢ (B.names shard).name → (result ≡ Err (record { refusal = Stranger; slip = None })) × (own.new ≡ own.old) × (handle.new ≡ handle.old) }
         ensures same { (handle.new ≡ record handle.old { pass = handle.new.pass }) × (handle.new.pass.board ≡ handle.old.pass.board) }
-        ensures call { own.old.name ≡ (B.names shard).name → Fsyncs (B.names shard) first last handle.old handle.new result own.old own.new };
-}
-
-impl<B: ShardNaming, D: BlockDevice, T: Trail, const K: u64> Syncs<B, D> for Place<B, D, T, K> {
-    fn fsync_range<R: Wait>(
-        &self,
-        rt: &R,
-        _shard: u64,
-        own: &mut Seat,
-        handle: &mut Handle,
-        first: PageIndex,
-        last: PageIndex,
-    ) -> Result<ShardDurable<B, D>, Denied> {
+        ensures call { own.old.name ≡ (B.names shard).name → Fsyncs (B.names shard) first last handle.old handle.new result own.old own.new }
+    {
         self.cache().fsync_range_in(rt, own, handle, first, last)
     }
 }
@@ -128,7 +115,7 @@ impl<
     const J: u64,
     const K: u64,
     const L: u64,
-> Syncs<B, D> for Four<B, D, T, I, J, K, L> {
+> Four<B, D, T, I, J, K, L> {
     fn fsync_range<R: Wait>(
         &self,
         rt: &R,
@@ -137,7 +124,16 @@ impl<
         handle: &mut Handle,
         first: PageIndex,
         last: PageIndex,
-    ) -> Result<ShardDurable<B, D>, Denied> {
+    ) -> Result<ShardDurable<B, D>, Denied>
+        requires whole { (J ≡ I + 1) × (K ≡ J + 1) × (L ≡ K + 1) }
+        requires at { (I ≤ shard) × (shard < L + 1) × (shard < B.shards) }
+        requires seat { own.old.name ≡ (B.names shard).name → own.old.table ≡ (B.names shard).table }
+        requires came { handle.old.cache ≡ (B.names shard).name → handle.old.pass.board ≡ (B.names shard).board }
+        ensures goes { Goes own.old own.new }
+        ensures foreign { own.old.name ≢ (B.names shard).name → (result ≡ Err (record { refusal = Stranger; slip = None })) × (own.new ≡ own.old) × (handle.new ≡ handle.old) }
+        ensures same { (handle.new ≡ record handle.old { pass = handle.new.pass }) × (handle.new.pass.board ≡ handle.old.pass.board) }
+        ensures call { own.old.name ≡ (B.names shard).name → Fsyncs (B.names shard) first last handle.old handle.new result own.old own.new }
+    {
         at_quarter!(
             self,
             shard,
@@ -147,7 +143,7 @@ impl<
     }
 }
 
-impl<B: ShardNaming, D: BlockDevice, T: Trail> Syncs<B, D> for Sixteen<B, D, T> {
+impl<B: ShardNaming, D: BlockDevice, T: Trail> Sixteen<B, D, T> {
     fn fsync_range<R: Wait>(
         &self,
         rt: &R,
@@ -156,7 +152,15 @@ impl<B: ShardNaming, D: BlockDevice, T: Trail> Syncs<B, D> for Sixteen<B, D, T> 
         handle: &mut Handle,
         first: PageIndex,
         last: PageIndex,
-    ) -> Result<ShardDurable<B, D>, Denied> {
+    ) -> Result<ShardDurable<B, D>, Denied>
+        requires at { (shard < 16) × (shard < B.shards) }
+        requires seat { own.old.name ≡ (B.names shard).name → own.old.table ≡ (B.names shard).table }
+        requires came { handle.old.cache ≡ (B.names shard).name → handle.old.pass.board ≡ (B.names shard).board }
+        ensures goes { Goes own.old own.new }
+        ensures foreign { own.old.name ≢ (B.names shard).name → (result ≡ Err (record { refusal = Stranger; slip = None })) × (own.new ≡ own.old) × (handle.new ≡ handle.old) }
+        ensures same { (handle.new ≡ record handle.old { pass = handle.new.pass }) × (handle.new.pass.board ≡ handle.old.pass.board) }
+        ensures call { own.old.name ≡ (B.names shard).name → Fsyncs (B.names shard) first last handle.old handle.new result own.old own.new }
+    {
         at_quarter!(
             self,
             shard,

@@ -1,6 +1,6 @@
 //! Workers' turns and loops, in a shard.
 
-ghost use Rattle.std.specs.Prelude.{◌≡◌, ◌<◌, ◌≤◌, Some, length, map};
+ghost use Rattle.std.specs.Prelude.{◌≡◌, ◌+◌, ◌<◌, ◌≤◌, Some, length, map};
 ghost use Rattle.shared.specs.ShardSeats.{AreSeated};
 ghost use Rattle.shared.specs.ShardWorkers.{AreWorkers, IsWorkerAt, WorksAt};
 ghost use Rattle.shared.specs.ShardWorks.{EndsAll, EndsOne, LetsPages, LetsSome, WritesBack, WritesOne};
@@ -10,7 +10,7 @@ use crate::cache::SharedCache;
 use crate::ends::Done;
 use crate::shards::cache::ShardedCache;
 use crate::shards::naming::{Shard, ShardNaming};
-use crate::shards::place::{Four, Place, Sixteen, Span, at_quarter};
+use crate::shards::place::{Four, Place, Sixteen, at_quarter};
 use crate::shards::worker::ShardWorker;
 use crate::turns::Flushed;
 use crate::worker::Worker;
@@ -36,7 +36,7 @@ impl<B: ShardNaming, D: BlockDevice, T: Trail, const K: u64> SharedCache<Shard<B
     ) -> Result<Flushed, Denied>
         requires ring { (B.names K).ring ≡ Some self.now.ring }
         requires worker { IsWorkerAt (B.names K) worker.old }
-        ensures turn { WritesOne (B.names K) result worker.old worker.new }
+        ensures turn { WritesOne (B.names K) (G.passed gate.now) result worker.old worker.new }
     {
         self.flusher_turn(rt, gate, worker)
     }
@@ -49,7 +49,7 @@ impl<B: ShardNaming, D: BlockDevice, T: Trail, const K: u64> SharedCache<Shard<B
     ) -> Result<u64, Denied>
         requires ring { (B.names K).ring ≡ Some self.now.ring }
         requires worker { IsWorkerAt (B.names K) worker.old }
-        ensures turn { LetsSome (B.names K) result worker.old worker.new }
+        ensures turn { LetsSome (B.names K) (G.passed gate.now) result worker.old worker.new }
     {
         self.evictor_turn(rt, gate, worker)
     }
@@ -79,67 +79,8 @@ impl<B: ShardNaming, D: BlockDevice, T: Trail, const K: u64> SharedCache<Shard<B
     }
 }
 
-/// Turns and loops of workers of one of these shards.
-pub(crate) trait Works<B: ShardNaming>: Span {
+impl<B: ShardNaming, D: BlockDevice, T: Trail, const K: u64> Place<B, D, T, K> {
     /// Tells the workers of all these shards to stop.
-    fn stop<R: Wait>(&self, rt: &R);
-
-    fn io_turn<R: Wait, G: Gate>(
-        &self,
-        rt: &R,
-        shard: u64,
-        gate: &G,
-        worker: &mut Worker,
-    ) -> Option<Done>
-        requires whole { Self.whole }
-        requires at { (Self.first ≤ shard) × (shard < Self.end) × (shard < B.shards) }
-        requires worker { IsWorkerAt (B.names shard) worker.old }
-        ensures turn { EndsOne (B.names shard) (G.passed gate.now) result worker.old worker.new };
-
-    fn flusher_turn<R: Wait, G: Gate>(
-        &self,
-        rt: &R,
-        shard: u64,
-        gate: &G,
-        worker: &mut Worker,
-    ) -> Result<Flushed, Denied>
-        requires whole { Self.whole }
-        requires at { (Self.first ≤ shard) × (shard < Self.end) × (shard < B.shards) }
-        requires worker { IsWorkerAt (B.names shard) worker.old }
-        ensures turn { WritesOne (B.names shard) result worker.old worker.new };
-
-    fn evictor_turn<R: Wait, G: Gate>(
-        &self,
-        rt: &R,
-        shard: u64,
-        gate: &G,
-        worker: &mut Worker,
-    ) -> Result<u64, Denied>
-        requires whole { Self.whole }
-        requires at { (Self.first ≤ shard) × (shard < Self.end) × (shard < B.shards) }
-        requires worker { IsWorkerAt (B.names shard) worker.old }
-        ensures turn { LetsSome (B.names shard) result worker.old worker.new };
-
-    fn io_worker<R: Wait, G: Gate>(&self, rt: &R, shard: u64, gate: &G, worker: &mut Worker)
-        requires whole { Self.whole }
-        requires at { (Self.first ≤ shard) × (shard < Self.end) × (shard < B.shards) }
-        requires worker { IsWorkerAt (B.names shard) worker.old }
-        ensures turn { EndsAll (B.names shard) worker.old worker.new };
-
-    fn flusher<R: Wait, G: Gate>(&self, rt: &R, shard: u64, gate: &G, worker: &mut Worker)
-        requires whole { Self.whole }
-        requires at { (Self.first ≤ shard) × (shard < Self.end) × (shard < B.shards) }
-        requires worker { IsWorkerAt (B.names shard) worker.old }
-        ensures turn { WritesBack (B.names shard) worker.old worker.new };
-
-    fn evictor<R: Wait, G: Gate>(&self, rt: &R, shard: u64, gate: &G, worker: &mut Worker)
-        requires whole { Self.whole }
-        requires at { (Self.first ≤ shard) × (shard < Self.end) × (shard < B.shards) }
-        requires worker { IsWorkerAt (B.names shard) worker.old }
-        ensures turn { LetsPages (B.names shard) worker.old worker.new };
-}
-
-impl<B: ShardNaming, D: BlockDevice, T: Trail, const K: u64> Works<B> for Place<B, D, T, K> {
     fn stop<R: Wait>(&self, rt: &R) {
         if let Some(cache) = self.caches.first() {
             cache.stop(rt);
@@ -149,42 +90,66 @@ impl<B: ShardNaming, D: BlockDevice, T: Trail, const K: u64> Works<B> for Place<
     fn io_turn<R: Wait, G: Gate>(
         &self,
         rt: &R,
-        _shard: u64,
+        shard: u64,
         gate: &G,
         worker: &mut Worker,
-    ) -> Option<Done> {
+    ) -> Option<Done>
+        requires at { (K ≤ shard) × (shard < K + 1) × (shard < B.shards) }
+        requires worker { IsWorkerAt (B.names shard) worker.old }
+        ensures turn { EndsOne (B.names shard) (G.passed gate.now) result worker.old worker.new }
+    {
         self.cache().io_turn_in(rt, gate, worker)
     }
 
     fn flusher_turn<R: Wait, G: Gate>(
         &self,
         rt: &R,
-        _shard: u64,
+        shard: u64,
         gate: &G,
         worker: &mut Worker,
-    ) -> Result<Flushed, Denied> {
+    ) -> Result<Flushed, Denied>
+        requires at { (K ≤ shard) × (shard < K + 1) × (shard < B.shards) }
+        requires worker { IsWorkerAt (B.names shard) worker.old }
+        ensures turn { WritesOne (B.names shard) (G.passed gate.now) result worker.old worker.new }
+    {
         self.cache().flusher_turn_in(rt, gate, worker)
     }
 
     fn evictor_turn<R: Wait, G: Gate>(
         &self,
         rt: &R,
-        _shard: u64,
+        shard: u64,
         gate: &G,
         worker: &mut Worker,
-    ) -> Result<u64, Denied> {
+    ) -> Result<u64, Denied>
+        requires at { (K ≤ shard) × (shard < K + 1) × (shard < B.shards) }
+        requires worker { IsWorkerAt (B.names shard) worker.old }
+        ensures turn { LetsSome (B.names shard) (G.passed gate.now) result worker.old worker.new }
+    {
         self.cache().evictor_turn_in(rt, gate, worker)
     }
 
-    fn io_worker<R: Wait, G: Gate>(&self, rt: &R, _shard: u64, gate: &G, worker: &mut Worker) {
+    fn io_worker<R: Wait, G: Gate>(&self, rt: &R, shard: u64, gate: &G, worker: &mut Worker)
+        requires at { (K ≤ shard) × (shard < K + 1) × (shard < B.shards) }
+        requires worker { IsWorkerAt (B.names shard) worker.old }
+        ensures turn { EndsAll (B.names shard) worker.old worker.new }
+    {
         self.cache().io_worker_in(rt, gate, worker)
     }
 
-    fn flusher<R: Wait, G: Gate>(&self, rt: &R, _shard: u64, gate: &G, worker: &mut Worker) {
+    fn flusher<R: Wait, G: Gate>(&self, rt: &R, shard: u64, gate: &G, worker: &mut Worker)
+        requires at { (K ≤ shard) × (shard < K + 1) × (shard < B.shards) }
+        requires worker { IsWorkerAt (B.names shard) worker.old }
+        ensures turn { WritesBack (B.names shard) worker.old worker.new }
+    {
         self.cache().flusher_in(rt, gate, worker)
     }
 
-    fn evictor<R: Wait, G: Gate>(&self, rt: &R, _shard: u64, gate: &G, worker: &mut Worker) {
+    fn evictor<R: Wait, G: Gate>(&self, rt: &R, shard: u64, gate: &G, worker: &mut Worker)
+        requires at { (K ≤ shard) × (shard < K + 1) × (shard < B.shards) }
+        requires worker { IsWorkerAt (B.names shard) worker.old }
+        ensures turn { LetsPages (B.names shard) worker.old worker.new }
+    {
         self.cache().evictor_in(rt, gate, worker)
     }
 }
@@ -197,7 +162,8 @@ impl<
     const J: u64,
     const K: u64,
     const L: u64,
-> Works<B> for Four<B, D, T, I, J, K, L> {
+> Four<B, D, T, I, J, K, L> {
+    /// Tells the workers of all these shards to stop.
     fn stop<R: Wait>(&self, rt: &R) {
         self.part_0.stop(rt);
         self.part_1.stop(rt);
@@ -211,7 +177,12 @@ impl<
         shard: u64,
         gate: &G,
         worker: &mut Worker,
-    ) -> Option<Done> {
+    ) -> Option<Done>
+        requires whole { (J ≡ I + 1) × (K ≡ J + 1) × (L ≡ K + 1) }
+        requires at { (I ≤ shard) × (shard < L + 1) × (shard < B.shards) }
+        requires worker { IsWorkerAt (B.names shard) worker.old }
+        ensures turn { EndsOne (B.names shard) (G.passed gate.now) result worker.old worker.new }
+    {
         at_quarter!(self, shard, [J, K, L], io_turn(rt, shard, gate, worker))
     }
 
@@ -221,7 +192,12 @@ impl<
         shard: u64,
         gate: &G,
         worker: &mut Worker,
-    ) -> Result<Flushed, Denied> {
+    ) -> Result<Flushed, Denied>
+        requires whole { (J ≡ I + 1) × (K ≡ J + 1) × (L ≡ K + 1) }
+        requires at { (I ≤ shard) × (shard < L + 1) × (shard < B.shards) }
+        requires worker { IsWorkerAt (B.names shard) worker.old }
+        ensures turn { WritesOne (B.names shard) (G.passed gate.now) result worker.old worker.new }
+    {
         at_quarter!(
             self,
             shard,
@@ -236,7 +212,12 @@ impl<
         shard: u64,
         gate: &G,
         worker: &mut Worker,
-    ) -> Result<u64, Denied> {
+    ) -> Result<u64, Denied>
+        requires whole { (J ≡ I + 1) × (K ≡ J + 1) × (L ≡ K + 1) }
+        requires at { (I ≤ shard) × (shard < L + 1) × (shard < B.shards) }
+        requires worker { IsWorkerAt (B.names shard) worker.old }
+        ensures turn { LetsSome (B.names shard) (G.passed gate.now) result worker.old worker.new }
+    {
         at_quarter!(
             self,
             shard,
@@ -245,20 +226,36 @@ impl<
         )
     }
 
-    fn io_worker<R: Wait, G: Gate>(&self, rt: &R, shard: u64, gate: &G, worker: &mut Worker) {
+    fn io_worker<R: Wait, G: Gate>(&self, rt: &R, shard: u64, gate: &G, worker: &mut Worker)
+        requires whole { (J ≡ I + 1) × (K ≡ J + 1) × (L ≡ K + 1) }
+        requires at { (I ≤ shard) × (shard < L + 1) × (shard < B.shards) }
+        requires worker { IsWorkerAt (B.names shard) worker.old }
+        ensures turn { EndsAll (B.names shard) worker.old worker.new }
+    {
         at_quarter!(self, shard, [J, K, L], io_worker(rt, shard, gate, worker))
     }
 
-    fn flusher<R: Wait, G: Gate>(&self, rt: &R, shard: u64, gate: &G, worker: &mut Worker) {
+    fn flusher<R: Wait, G: Gate>(&self, rt: &R, shard: u64, gate: &G, worker: &mut Worker)
+        requires whole { (J ≡ I + 1) × (K ≡ J + 1) × (L ≡ K + 1) }
+        requires at { (I ≤ shard) × (shard < L + 1) × (shard < B.shards) }
+        requires worker { IsWorkerAt (B.names shard) worker.old }
+        ensures turn { WritesBack (B.names shard) worker.old worker.new }
+    {
         at_quarter!(self, shard, [J, K, L], flusher(rt, shard, gate, worker))
     }
 
-    fn evictor<R: Wait, G: Gate>(&self, rt: &R, shard: u64, gate: &G, worker: &mut Worker) {
+    fn evictor<R: Wait, G: Gate>(&self, rt: &R, shard: u64, gate: &G, worker: &mut Worker)
+        requires whole { (J ≡ I + 1) × (K ≡ J + 1) × (L ≡ K + 1) }
+        requires at { (I ≤ shard) × (shard < L + 1) × (shard < B.shards) }
+        requires worker { IsWorkerAt (B.names shard) worker.old }
+        ensures turn { LetsPages (B.names shard) worker.old worker.new }
+    {
         at_quarter!(self, shard, [J, K, L], evictor(rt, shard, gate, worker))
     }
 }
 
-impl<B: ShardNaming, D: BlockDevice, T: Trail> Works<B> for Sixteen<B, D, T> {
+impl<B: ShardNaming, D: BlockDevice, T: Trail> Sixteen<B, D, T> {
+    /// Tells the workers of all these shards to stop.
     fn stop<R: Wait>(&self, rt: &R) {
         self.part_0.stop(rt);
         self.part_1.stop(rt);
@@ -272,7 +269,11 @@ impl<B: ShardNaming, D: BlockDevice, T: Trail> Works<B> for Sixteen<B, D, T> {
         shard: u64,
         gate: &G,
         worker: &mut Worker,
-    ) -> Option<Done> {
+    ) -> Option<Done>
+        requires at { (shard < 16) × (shard < B.shards) }
+        requires worker { IsWorkerAt (B.names shard) worker.old }
+        ensures turn { EndsOne (B.names shard) (G.passed gate.now) result worker.old worker.new }
+    {
         at_quarter!(self, shard, [4, 8, 12], io_turn(rt, shard, gate, worker))
     }
 
@@ -282,7 +283,11 @@ impl<B: ShardNaming, D: BlockDevice, T: Trail> Works<B> for Sixteen<B, D, T> {
         shard: u64,
         gate: &G,
         worker: &mut Worker,
-    ) -> Result<Flushed, Denied> {
+    ) -> Result<Flushed, Denied>
+        requires at { (shard < 16) × (shard < B.shards) }
+        requires worker { IsWorkerAt (B.names shard) worker.old }
+        ensures turn { WritesOne (B.names shard) (G.passed gate.now) result worker.old worker.new }
+    {
         at_quarter!(
             self,
             shard,
@@ -297,7 +302,11 @@ impl<B: ShardNaming, D: BlockDevice, T: Trail> Works<B> for Sixteen<B, D, T> {
         shard: u64,
         gate: &G,
         worker: &mut Worker,
-    ) -> Result<u64, Denied> {
+    ) -> Result<u64, Denied>
+        requires at { (shard < 16) × (shard < B.shards) }
+        requires worker { IsWorkerAt (B.names shard) worker.old }
+        ensures turn { LetsSome (B.names shard) (G.passed gate.now) result worker.old worker.new }
+    {
         at_quarter!(
             self,
             shard,
@@ -306,15 +315,27 @@ impl<B: ShardNaming, D: BlockDevice, T: Trail> Works<B> for Sixteen<B, D, T> {
         )
     }
 
-    fn io_worker<R: Wait, G: Gate>(&self, rt: &R, shard: u64, gate: &G, worker: &mut Worker) {
+    fn io_worker<R: Wait, G: Gate>(&self, rt: &R, shard: u64, gate: &G, worker: &mut Worker)
+        requires at { (shard < 16) × (shard < B.shards) }
+        requires worker { IsWorkerAt (B.names shard) worker.old }
+        ensures turn { EndsAll (B.names shard) worker.old worker.new }
+    {
         at_quarter!(self, shard, [4, 8, 12], io_worker(rt, shard, gate, worker))
     }
 
-    fn flusher<R: Wait, G: Gate>(&self, rt: &R, shard: u64, gate: &G, worker: &mut Worker) {
+    fn flusher<R: Wait, G: Gate>(&self, rt: &R, shard: u64, gate: &G, worker: &mut Worker)
+        requires at { (shard < 16) × (shard < B.shards) }
+        requires worker { IsWorkerAt (B.names shard) worker.old }
+        ensures turn { WritesBack (B.names shard) worker.old worker.new }
+    {
         at_quarter!(self, shard, [4, 8, 12], flusher(rt, shard, gate, worker))
     }
 
-    fn evictor<R: Wait, G: Gate>(&self, rt: &R, shard: u64, gate: &G, worker: &mut Worker) {
+    fn evictor<R: Wait, G: Gate>(&self, rt: &R, shard: u64, gate: &G, worker: &mut Worker)
+        requires at { (shard < 16) × (shard < B.shards) }
+        requires worker { IsWorkerAt (B.names shard) worker.old }
+        ensures turn { LetsPages (B.names shard) worker.old worker.new }
+    {
         at_quarter!(self, shard, [4, 8, 12], evictor(rt, shard, gate, worker))
     }
 }
@@ -354,7 +375,7 @@ impl<B: ShardNaming, D: BlockDevice, T: Trail> ShardedCache<B, D, T> {
     ) -> Result<Flushed, Denied>
         requires there { (shard < B.shards) × (length worker.old ≡ B.shards) }
         requires workers { AreWorkers B.names worker.old }
-        ensures turn { WorksAt shard (WritesOne (B.names shard) result) worker.old worker.new }
+        ensures turn { WorksAt shard (WritesOne (B.names shard) (G.passed gate.now) result) worker.old worker.new }
         ensures workers { AreWorkers B.names worker.new }
         ensures seated { AreSeated B.names (map seat_of worker.old) → AreSeated B.names (map seat_of worker.new) }
         ensures count { length worker.new ≡ B.shards }
@@ -377,7 +398,7 @@ impl<B: ShardNaming, D: BlockDevice, T: Trail> ShardedCache<B, D, T> {
     ) -> Result<u64, Denied>
         requires there { (shard < B.shards) × (length worker.old ≡ B.shards) }
         requires workers { AreWorkers B.names worker.old }
-        ensures turn { WorksAt shard (LetsSome (B.names shard) result) worker.old worker.new }
+        ensures turn { WorksAt shard (LetsSome (B.names shard) (G.passed gate.now) result) worker.old worker.new }
         ensures workers { AreWorkers B.names worker.new }
         ensures seated { AreSeated B.names (map seat_of worker.old) → AreSeated B.names (map seat_of worker.new) }
         ensures count { length worker.new ≡ B.shards }

@@ -11,7 +11,7 @@ ghost use Rattle.shared.specs.declared.worker.Worker.{Worker};
 use crate::cache::SharedCache;
 use crate::shards::cache::ShardedCache;
 use crate::shards::naming::{Shard, ShardNaming};
-use crate::shards::place::{Four, Place, Sixteen, Span};
+use crate::shards::place::{Four, Place, Sixteen};
 use crate::shards::seat::ShardSeat;
 use crate::worker::Worker;
 use blockdev::BlockDevice;
@@ -58,31 +58,26 @@ impl<B: ShardNaming, D: BlockDevice, T: Trail, const K: u64> SharedCache<Shard<B
     }
 }
 
-/// Who makes workers of these shards.
-pub(crate) trait Staffs<B: ShardNaming>: Span {
+impl<B: ShardNaming, D: BlockDevice, T: Trail, const K: u64> Place<B, D, T, K> {
     /// Makes a worker of each of these shards, where there are so many, of the caller's last seats. They go before those of the shards that
     /// follow.
     fn add_workers(&self, own: &mut ShardWorker, seats: &mut Vec<Seat>, workers: &mut Vec<Worker>)
-        requires whole { Self.whole }
         requires own { (length own.old ≡ B.shards) × AreWorkers B.names own.old }
-        requires left { vec_len seats.old ≡ min B.shards Self.end }
+        requires left { vec_len seats.old ≡ min B.shards (K + 1) }
         requires seated { (k : ℕ) → k < vec_len seats.old → ((part seats.old.items k).name ≡ (B.names k).name) × ((part seats.old.items k).table ≡ (B.names k).table) }
-        requires count { vec_len workers.old ≡ B.shards - Self.end }
+        requires count { vec_len workers.old ≡ B.shards - (K + 1) }
         requires spare { B.shards ≤ vec_capacity workers.old }
-        requires workers { AllFrom (λ k w. IsWorkerAt (B.names k) w) Self.end workers.old.items }
+        requires workers { AllFrom (λ k w. IsWorkerAt (B.names k) w) (K + 1) workers.old.items }
         ensures own { (length own.new ≡ B.shards) × AreWorkers B.names own.new }
-        ensures left { vec_len seats.new ≡ min B.shards Self.first }
+        ensures left { vec_len seats.new ≡ min B.shards K }
         ensures seated { (k : ℕ) → k < vec_len seats.new → ((part seats.new.items k).name ≡ (B.names k).name) × ((part seats.new.items k).table ≡ (B.names k).table) }
-        ensures count { vec_len workers.new ≡ B.shards - Self.first }
+        ensures count { vec_len workers.new ≡ B.shards - K }
         ensures spare { B.shards ≤ vec_capacity workers.new }
-        ensures workers { AllFrom (λ k w. IsWorkerAt (B.names k) w) Self.first workers.new.items }
+        ensures workers { AllFrom (λ k w. IsWorkerAt (B.names k) w) K workers.new.items }
         ensures same { seats.new.items ++ map seat_of workers.new.items ≡ seats.old.items ++ map seat_of workers.old.items }
         ensures room { vec_capacity seats.new ≡ vec_capacity seats.old }
-        ensures made { (first : List Worker) → HaveMadeFrom Self.end first own.old workers.old.items → HaveMadeFrom Self.first first own.new workers.new.items };
-}
-
-impl<B: ShardNaming, D: BlockDevice, T: Trail, const K: u64> Staffs<B> for Place<B, D, T, K> {
-    fn add_workers(&self, own: &mut ShardWorker, seats: &mut Vec<Seat>, workers: &mut Vec<Worker>) {
+        ensures made { (first : List Worker) → HaveMadeFrom (K + 1) first own.old workers.old.items → HaveMadeFrom K first own.new workers.new.items }
+    {
         let Some(cache) = self.caches.first() else {
             return;
         };
@@ -107,9 +102,28 @@ impl<
     const J: u64,
     const K: u64,
     const L: u64,
-> Staffs<B> for Four<B, D, T, I, J, K, L> {
+> Four<B, D, T, I, J, K, L> {
+    /// Makes a worker of each of these shards, where there are so many, of the caller's last seats. They go before those of the shards that
+    /// follow.
     // the last first
-    fn add_workers(&self, own: &mut ShardWorker, seats: &mut Vec<Seat>, workers: &mut Vec<Worker>) {
+    fn add_workers(&self, own: &mut ShardWorker, seats: &mut Vec<Seat>, workers: &mut Vec<Worker>)
+        requires whole { (J ≡ I + 1) × (K ≡ J + 1) × (L ≡ K + 1) }
+        requires own { (length own.old ≡ B.shards) × AreWorkers B.names own.old }
+        requires left { vec_len seats.old ≡ min B.shards (L + 1) }
+        requires seated { (k : ℕ) → k < vec_len seats.old → ((part seats.old.items k).name ≡ (B.names k).name) × ((part seats.old.items k).table ≡ (B.names k).table) }
+        requires count { vec_len workers.old ≡ B.shards - (L + 1) }
+        requires spare { B.shards ≤ vec_capacity workers.old }
+        requires workers { AllFrom (λ k w. IsWorkerAt (B.names k) w) (L + 1) workers.old.items }
+        ensures own { (length own.new ≡ B.shards) × AreWorkers B.names own.new }
+        ensures left { vec_len seats.new ≡ min B.shards I }
+        ensures seated { (k : ℕ) → k < vec_len seats.new → ((part seats.new.items k).name ≡ (B.names k).name) × ((part seats.new.items k).table ≡ (B.names k).table) }
+        ensures count { vec_len workers.new ≡ B.shards - I }
+        ensures spare { B.shards ≤ vec_capacity workers.new }
+        ensures workers { AllFrom (λ k w. IsWorkerAt (B.names k) w) I workers.new.items }
+        ensures same { seats.new.items ++ map seat_of workers.new.items ≡ seats.old.items ++ map seat_of workers.old.items }
+        ensures room { vec_capacity seats.new ≡ vec_capacity seats.old }
+        ensures made { (first : List Worker) → HaveMadeFrom (L + 1) first own.old workers.old.items → HaveMadeFrom I first own.new workers.new.items }
+    {
         self.part_3.add_workers(own, seats, workers);
         self.part_2.add_workers(own, seats, workers);
         self.part_1.add_workers(own, seats, workers);
@@ -117,9 +131,27 @@ impl<
     }
 }
 
-impl<B: ShardNaming, D: BlockDevice, T: Trail> Staffs<B> for Sixteen<B, D, T> {
+impl<B: ShardNaming, D: BlockDevice, T: Trail> Sixteen<B, D, T> {
+    /// Makes a worker of each of these shards, where there are so many, of the caller's last seats. They go before those of the shards that
+    /// follow.
     // the last first
-    fn add_workers(&self, own: &mut ShardWorker, seats: &mut Vec<Seat>, workers: &mut Vec<Worker>) {
+    fn add_workers(&self, own: &mut ShardWorker, seats: &mut Vec<Seat>, workers: &mut Vec<Worker>)
+        requires own { (length own.old ≡ B.shards) × AreWorkers B.names own.old }
+        requires left { vec_len seats.old ≡ min B.shards 16 }
+        requires seated { (k : ℕ) → k < vec_len seats.old → ((part seats.old.items k).name ≡ (B.names k).name) × ((part seats.old.items k).table ≡ (B.names k).table) }
+        requires count { vec_len workers.old ≡ B.shards - 16 }
+        requires spare { B.shards ≤ vec_capacity workers.old }
+        requires workers { AllFrom (λ k w. IsWorkerAt (B.names k) w) 16 workers.old.items }
+        ensures own { (length own.new ≡ B.shards) × AreWorkers B.names own.new }
+        ensures left { vec_len seats.new ≡ min B.shards 0 }
+        ensures seated { (k : ℕ) → k < vec_len seats.new → ((part seats.new.items k).name ≡ (B.names k).name) × ((part seats.new.items k).table ≡ (B.names k).table) }
+        ensures count { vec_len workers.new ≡ B.shards - 0 }
+        ensures spare { B.shards ≤ vec_capacity workers.new }
+        ensures workers { AllFrom (λ k w. IsWorkerAt (B.names k) w) 0 workers.new.items }
+        ensures same { seats.new.items ++ map seat_of workers.new.items ≡ seats.old.items ++ map seat_of workers.old.items }
+        ensures room { vec_capacity seats.new ≡ vec_capacity seats.old }
+        ensures made { (first : List Worker) → HaveMadeFrom 16 first own.old workers.old.items → HaveMadeFrom 0 first own.new workers.new.items }
+    {
         self.part_3.add_workers(own, seats, workers);
         self.part_2.add_workers(own, seats, workers);
         self.part_1.add_workers(own, seats, workers);

@@ -5,9 +5,8 @@ ghost use Rattle.shared.specs.ShardSeats.{AreSeated};
 ghost use Rattle.shared.specs.ShardWorkers.{AreWorkers};
 ghost use Rattle.shared.specs.Workers.{seat_of};
 
-use crate::crew::Open;
 use crate::shards::member::Member;
-use blockdev::BlockDevice;
+use blockdev::{BlockDevice, OpenGate};
 use shared::shards::cache::ShardedCache;
 use shared::shards::naming::ShardNaming;
 use shared::shards::worker::ShardWorker;
@@ -115,7 +114,7 @@ impl<B: ShardNaming> Hand<B> {
         requires { shard < B.shards }
     {
         let Hand { mut worker, .. } = self;
-        cache.flusher(rt, &Open, shard, &mut worker);
+        cache.flusher(rt, &OpenGate, shard, &mut worker);
         Member::of(worker.into_seat())
     }
 
@@ -128,7 +127,7 @@ impl<B: ShardNaming> Hand<B> {
         requires { shard < B.shards }
     {
         let Hand { mut worker, .. } = self;
-        cache.evictor(rt, &Open, shard, &mut worker);
+        cache.evictor(rt, &OpenGate, shard, &mut worker);
         Member::of(worker.into_seat())
     }
 
@@ -141,7 +140,7 @@ impl<B: ShardNaming> Hand<B> {
         requires { shard < B.shards }
     {
         let Hand { mut worker, .. } = self;
-        cache.io_worker(rt, &Open, shard, &mut worker);
+        cache.io_worker(rt, &OpenGate, shard, &mut worker);
         Member::of(worker.into_seat())
     }
 }

@@ -1,23 +1,25 @@
 //! The searches for the next entry, and the steps of a walk over entries in rising order.
-ghost use Rattle.std.specs.Prelude.{◌≡◌, ℕ, ◌+◌, ◌*◌, ◌-◌, ◌/◌, ◌%◌, ◌^◌, ◌<◌, ◌≤◌, ◌==◌, [], ◌∷◌, Some, None, IfSome, MatchOption, true, option_map};
+ghost use Rattle.std.specs.Prelude.{◌≡◌, ℕ, ◌+◌, ◌*◌, ◌-◌, ◌/◌, ◌%◌, ◌^◌, ◌<◌, ◌≤◌, ◌==◌, [], ◌∷◌, Option, Some, None, IfSome, MatchOption, true, option_map};
 ghost use Rattle.radix.specs.Entries as radix;
 ghost use Rattle.radix.specs.Entries.{HasNoNext, HasNoNextEntry, IsLeaf, IsNext, IsNextEntry, StandsAt};
+ghost use Rattle.radix.specs.Twigs.{IsTwig, mark_of};
 ghost use Rattle.xarray.specs.MarkedArray.{entry_at, found_of, given, has_mark, is_any, lowest};
 ghost use Rattle.xarray.specs.Standing.{IsLeafOf, IsOutside, IsSpot, IsStart};
 ghost use Rattle.xarray.specs.View.{ranges_of};
-ghost use Rattle.xarray.specs.Walks.{IsAbove, IsAfter, IsNear, IsPlace, kind_of, left};
+ghost use Rattle.xarray.specs.Walks.{IsAfter, IsNear, IsOn, IsPlace, kind_of, left, number_of};
 
 use super::{Ranged, Spot, last_of, leaf_value};
 use crate::entry::{Found, Mark};
-use radix::{Ahead, Cursor, Position, Walk, first_at, place_at};
+use radix::{Ahead, Cursor, Onward, Position, Twig, Walk, first_at, place_at};
 
-/// One step of a walk: the entry, where the walk goes on, if it does, the entry's last slot, and the node above it, if it is known.
+/// One step of a walk: the entry, where the walk goes on, if it does, the entry's last slot, and its twig, if that is of the lowest
+/// level.
 #[derive(Clone, Copy)]
-pub struct Step {
+pub struct Step<'a> {
     pub found: Found,
     pub next: Option<u64>,
     pub slot: Position,
-    pub above: Option<Cursor>,
+    pub twig: Option<Twig<'a>>,
 }
 
 impl Ranged {
@@ -239,55 +241,48 @@ impl Ranged {
         }
     }
 
-    /// The first entry that is left of a walk, and where the walk goes on. Most often it has one index and is in the node of
-    /// the entry before or in one beside it, and then the step is short, in the caller's own code.
+    /// The next entry of a walk, where it has one index and the twig leads to it. It is a part of the caller's own loop, so it
+    /// looks at nothing else.
     #[inline(always)]
-    pub fn step(
-        &self,
+    pub fn next_on<'a>(&'a self, twig: Twig<'a>, from: u64) -> Option<Onward<'a>>
+        requires outside { IsOutside (ranges_of self.now) from }
+        requires twig { IsTwig self.now from twig }
+        ensures near { IfSome result (λ r. (mark : Option Mark) → mark_of twig.entry ≡ number_of mark → (to : ℕ) → from ≤ to → IsNear (ranges_of self.now) (kind_of mark) from to r.place r.value) }
+        ensures twig { IfSome result (λ r. IsTwig self.now (r.place + 1) r.twig) }
+        ensures mark { IfSome result (λ r. mark_of r.twig ≡ mark_of twig.entry) }
+    {
+        self.nodes.next_on(twig, from)
+    }
+
+    /// The first entry that is left of a walk, and where the walk goes on, by each look that it may take. It hands its slot on in parts,
+    /// so that the caller's loop can keep them in registers.
+    #[inline(always)]
+    pub fn step<'a>(
+        &'a self,
+        twig: Option<Twig<'a>>,
         slot: Option<Position>,
-        above: Option<Cursor>,
         from: u64,
         to: u64,
         mark: Option<Mark>,
-    ) -> Option<Step>
+    ) -> Option<Step<'a>>
         requires le { from ≤ to }
         requires outside { IsOutside (ranges_of self.now) from }
-        requires after { IfSome slot (λ p. IsAfter self.now p from) }
-        requires above { IfSome slot (λ p. IsAbove self.now p above) }
+        requires twig { IfSome twig (λ t. IsTwig self.now from t) }
+        requires slot { twig ≡ None → IfSome slot (λ p. IsAfter self.now p from) }
         ensures first { MatchOption result (left mark (ranges_of self.now) (Some from) to ≡ []) (λ r. left mark (ranges_of self.now) (Some from) to ≡ r.found ∷ left mark (ranges_of self.now) r.next to) }
-        ensures place { IfSome result (λ r. IsPlace self.now r.next to (Some r.slot) r.above) }
+        ensures place { IfSome result (λ r. IsPlace self.now mark r.next to r.twig (Some r.slot)) }
     {
-        let Some(last) = slot else {
-            return self.step_far(None, from, to, mark);
+        let Some(twig) = twig else {
+            let Some(last) = slot else {
+                return self.step_from(None, from, to, mark);
+            };
+            return self.step_past(last.cursor, last.level, last.place, from, to, mark);
         };
-        let Position {
-            cursor,
-            level,
-            place,
-        } = last;
-        if level > 0 {
-            return self.step_past(cursor, level, place, from, to, mark);
-        }
-        let Some(ahead) = self.near(cursor, above, place, from, mark) else {
-            return self.step_past(cursor, 0, place, from, to, mark);
-        };
-        let Ahead {
-            cursor: found,
-            above: up,
-            place: at,
-            value,
-            is_alone,
-        } = ahead;
-        if !is_alone {
-            return self.step_past(cursor, 0, place, from, to, mark);
-        }
-        if at > to {
-            return None;
-        }
-        Some(step_at(found, up, at, value, to))
+        let before = self.nodes.slot_before(twig, from);
+        self.step_past(before.cursor, before.level, before.place, from, to, mark)
     }
 
-    // The same by each look that it may take, after a slot. The slot is put together here, out of the caller's loop.
+    // The same after a slot, which is put together here, out of the caller's loop.
     #[inline(never)]
     fn step_past(
         &self,
@@ -297,35 +292,35 @@ impl Ranged {
         from: u64,
         to: u64,
         mark: Option<Mark>,
-    ) -> Option<Step>
+    ) -> Option<Step<'_>>
         requires le { from ≤ to }
         requires outside { IsOutside (ranges_of self.now) from }
         requires after { IsAfter self.now (record { cursor = cursor; level = level; place = place }) from }
         ensures first { MatchOption result (left mark (ranges_of self.now) (Some from) to ≡ []) (λ r. left mark (ranges_of self.now) (Some from) to ≡ r.found ∷ left mark (ranges_of self.now) r.next to) }
-        ensures place { IfSome result (λ r. IsPlace self.now r.next to (Some r.slot) r.above) }
+        ensures place { IfSome result (λ r. IsPlace self.now mark r.next to r.twig (Some r.slot)) }
     {
         let slot = Position {
             cursor,
             level,
             place,
         };
-        self.step_far(Some(slot), from, to, mark)
+        self.step_from(Some(slot), from, to, mark)
     }
 
-    // The same by each look that it may take.
+    // The same from a slot upward, if one is known.
     #[inline(never)]
-    fn step_far(
+    fn step_from(
         &self,
         slot: Option<Position>,
         from: u64,
         to: u64,
         mark: Option<Mark>,
-    ) -> Option<Step>
+    ) -> Option<Step<'_>>
         requires le { from ≤ to }
         requires outside { IsOutside (ranges_of self.now) from }
         requires after { IfSome slot (λ p. IsAfter self.now p from) }
         ensures first { MatchOption result (left mark (ranges_of self.now) (Some from) to ≡ []) (λ r. left mark (ranges_of self.now) (Some from) to ≡ r.found ∷ left mark (ranges_of self.now) r.next to) }
-        ensures place { IfSome result (λ r. IsPlace self.now r.next to (Some r.slot) r.above) }
+        ensures place { IfSome result (λ r. IsPlace self.now mark r.next to r.twig (Some r.slot)) }
     {
         // As in `spot_in`.
         let _nodes = &self.nodes;
@@ -353,8 +348,28 @@ impl Ranged {
                 level,
                 place,
             },
-            above: self.nodes.above(cursor, level, place / 64),
+            twig: self.twig_of(cursor, level, place, mark),
         })
+    }
+
+    // The twig of a slot for a walk over the entries after it, where it is one of the lowest level.
+    fn twig_of(
+        &self,
+        cursor: Cursor,
+        level: u32,
+        place: u64,
+        mark: Option<Mark>,
+    ) -> Option<Twig<'_>>
+        requires { StandsAt self.now cursor level (place / 64) }
+        ensures { IfSome result (λ t. (level ≡ 0) × IsOn self.now mark (place + 1) t) }
+    {
+        if level > 0 {
+            return None;
+        }
+        match mark {
+            None => Some(self.nodes.entry_twig(cursor, place)),
+            Some(mark) => Some(self.nodes.marked_twig(cursor, place, mark.number())),
+        }
     }
 
     /// The lowest entry whose range meets the indexes from `from` to `to`.
@@ -408,32 +423,8 @@ impl Ranged {
 
 // The index after one, if it is not past the last.
 #[inline(always)]
-fn index_after(index: u64, last: u64) -> Option<u64>
+pub(crate) fn index_after(index: u64, last: u64) -> Option<u64>
     ensures { MatchOption result (last ≤ index) (λ next. (next ≡ index + 1) × (index < last)) }
 {
     if index < last { Some(index + 1) } else { None }
-}
-
-// The step to an entry of one index.
-#[inline(always)]
-fn step_at(cursor: Cursor, above: Option<Cursor>, first: u64, value: u64, to: u64) -> Step
-    ensures found { result.found ≡ record { first = first; order = 0; value = value } }
-    ensures next { MatchOption result.next (to ≤ first) (λ next. (next ≡ first + 1) × (first < to)) }
-    ensures slot { result.slot ≡ record { cursor = cursor; level = 0; place = first } }
-    ensures above { result.above ≡ above }
-{
-    Step {
-        found: Found {
-            first,
-            order: 0,
-            value,
-        },
-        next: index_after(first, to),
-        slot: Position {
-            cursor,
-            level: 0,
-            place: first,
-        },
-        above,
-    }
 }

@@ -1,9 +1,9 @@
-use Rattle.std.proofs.Common.{◌∙◌, subst}
+use Rattle.std.proofs.Common.{◌∙◌, arith, refl, subst}
 use Rattle.std.specs.Prelude.{if◌then◌else◌}
-use Rattle.held.proofs.Seats.{goes_on, only_any}
+use Rattle.held.proofs.Seats.{goes_on, goes_same, only_any, only_same}
 use Rattle.shared.specs.Own.{IsEviction}
 use Rattle.shared.specs.Workers.{LetsGo}
-use Rattle.shared.proofs.Letting.{last_gone, more_gone, shown_gone}
+use Rattle.shared.proofs.Letting.{last_gone, more_gone, none_gone, shown_gone}
 use Rattle.shared.proofs.Making.{full_for_on}
 use Rattle.shared.proofs.Owning.{eviction_on}
 use Rattle.shared.proofs.cache.SharedCache.evictor_turn.Goals as goal
@@ -29,6 +29,7 @@ pages-preserved g c =
           (subst (λ b. LetsGo (if b then 1 else 0) seat c.evict_one.new.seat) c.in-Ok-true.field-0-test c.in-Ok-true.ensures.gone);
       ring = c.pages.invariant.ring;
       alone = c.pages.invariant.alone;
+      passed = λ less. c.enter.ensures;
     }
 
 pub returns-then-has_spare-clause-gone : goal.returns-then-has_spare-clause-gone
@@ -55,3 +56,15 @@ returns-in-Err-clause-denied g c =
     let seat = c.has_spare.new.seat in
     full_for_on g.B.Naming.files g.B.Naming.sizes g.B.Naming.name g.B.Naming.whole IsEviction first seat c.evict_one.new.seat c.in-Err.denied
     (goes_on first c.pages.worker.seat seat c.pages.invariant.goes c.has_spare.ensures.goes) c.in-Err.ensures.denied
+
+pub pages-init : goal.pages-init
+pages-init g c =
+    let seat = c.args.worker.now.seat in record {
+      worker = c.requires.worker;
+      goes = goes_same seat seat refl;
+      only = only_same (λ e. IsEviction e.event) seat seat refl;
+      gone = none_gone seat seat refl;
+      ring = (refl, refl);
+      alone = refl;
+      passed = λ less. absurd (omega (arith, less));
+    }

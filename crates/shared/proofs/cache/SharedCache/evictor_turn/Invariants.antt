@@ -1,4 +1,4 @@
-use Rattle.std.proofs.Common.{◌≡◌, ℕ, ◌-◌, ◌^◌}
+use Rattle.std.proofs.Common.{◌≡◌, ◌<◌, ℕ, ◌-◌, ◌^◌}
 use Rattle.std.specs.Prelude.{min}
 use Rattle.held.specs.Called.{Goes, Only}
 use Rattle.shared.specs.Own.{IsEviction}
@@ -13,4 +13,5 @@ invariant-pages g l = record {
   gone : (pages : ℕ) × LetsGo pages l.initial.worker.seat l.worker.seat × (l.gone ≡ min pages (2 ^ 64 - 1));
   ring : (popped_by l.worker ≡ popped_by l.initial.worker) × (pushed_by l.worker ≡ pushed_by l.initial.worker);
   alone : company_of l.worker ≡ company_of l.initial.worker;
+  passed : 0 < l.gone → g.G.Gate.passed l.gate 0;
 }

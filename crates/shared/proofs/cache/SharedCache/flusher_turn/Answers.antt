@@ -1,4 +1,4 @@
-use Rattle.std.proofs.Common.{◌≡◌, rules, subst, sym, ◌∙◌}
+use Rattle.std.proofs.Common.{◌≡◌, ap, rules, subst, sym, ◌∙◌}
 use Rattle.std.specs.Prelude.{is_some}
 use Rattle.blockdev.specs.Jobs.{IsJobFor, Task}
 use Rattle.held.specs.Called.{Only}
@@ -82,3 +82,12 @@ returns-in_default-clause-worker g c = record {
   named = c.begin_flush.ensures.goes.same.1 ∙ c.requires.worker.named;
   seated = c.begin_flush.ensures.goes.same.0 ∙ c.requires.worker.seated;
 }
+
+pub returns-clause-full : goal.returns-clause-full
+returns-clause-full g c = c.in-Err-put.ensures.answer.2
+
+pub returns-clause-passed : goal.returns-clause-passed
+returns-clause-passed g c =
+    let serial : c.in-Ok-Some.begun.0.serial ≡ c.serial-serial.result.0 = search rules in
+    let back = ap (λ (j : Task). j.serial) c.in-Err-put.ensures.answer.0 in
+    subst (g.G.Gate.passed c.args.gate.now) (sym serial ∙ sym back ∙ sym c.end_job.ensures.ended.0) c.enter.ensures

@@ -9,7 +9,7 @@ close-requires g c =
     let few : g.B.ShardNaming.shards ≤ 16 = omega (arith, c.args.self.counted, c.args.self.few) in
     let all = all_there g.B.ShardNaming.shards (vec_len c.args.seats) g.B.ShardNaming.names own seats c.args.seats.ok.0 c.requires.own c.requires.callers c.requires.came c.requires.seats in
     let from_16 = none_ended_yet 16 g.B.ShardNaming.shards g.B.ShardNaming.names g.T.Trail.records g.T.Trail.cache g.D.BlockDevice.told own seats c.own.inside.workers.items c.args.ends (vec_len c.args.seats) few all c.own.view_is c.args.seats.ok.0 c.requires.room in
-    record { whole = search rules; ended = (own, seats, all, from_16) }
+    record { ended = (own, seats, all, from_16) }
 
 pub returns : goal.returns
 returns g c =

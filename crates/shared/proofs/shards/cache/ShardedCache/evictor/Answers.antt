@@ -5,8 +5,7 @@ use Rattle.shared.proofs.shards.cache.ShardedCache.evictor.Goals as goal
 
 pub evictor-requires : goal.evictor-requires
 evictor-requires g c = record {
-  whole = tt;
-  at = (omega arith, omega (arith, c.requires.there.0, c.args.self.now.counted, c.args.self.now.few), c.requires.there.0);
+  at = (omega (arith, c.requires.there.0, c.args.self.now.counted, c.args.self.now.few), c.requires.there.0);
   worker = lent g.B.ShardNaming.names c.args.worker.now c.worker.inside.workers.items c.args.shard c.in-Some.own.now c.worker.view_is
       (search rules) c.in-Some.ensures.value c.requires.workers;
 }

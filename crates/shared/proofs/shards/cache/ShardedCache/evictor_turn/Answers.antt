@@ -5,15 +5,14 @@ use Rattle.shared.proofs.shards.cache.ShardedCache.evictor_turn.Goals as goal
 
 pub evictor_turn-requires : goal.evictor_turn-requires
 evictor_turn-requires g c = record {
-  whole = tt;
-  at = (omega arith, omega (arith, c.requires.there.0, c.args.self.now.counted, c.args.self.now.few), c.requires.there.0);
+  at = (omega (arith, c.requires.there.0, c.args.self.now.counted, c.args.self.now.few), c.requires.there.0);
   worker = lent g.B.ShardNaming.names c.args.worker.now c.worker.inside.workers.items c.args.shard c.in-Some.own.now c.worker.view_is
       (search rules) c.in-Some.ensures.value c.requires.workers;
 }
 
 pub returns-clause-turn : goal.returns-clause-turn
 returns-clause-turn g c =
-    worked (LetsSome (g.B.ShardNaming.names c.args.shard) c.evictor_turn.result) c.args.worker.now c.worker.inside.workers.items c.args.shard
+    worked (LetsSome (g.B.ShardNaming.names c.args.shard) (g.G.Gate.passed c.args.gate.now) c.evictor_turn.result) c.args.worker.now c.worker.inside.workers.items c.args.shard
     c.in-Some.own.now c.evictor_turn.new.worker c.worker.view_is (search rules) c.in-Some.ensures.value c.evictor_turn.ensures.turn
 
 pub returns-clause-workers : goal.returns-clause-workers

@@ -5,15 +5,14 @@ use Rattle.shared.proofs.shards.cache.ShardedCache.flusher_turn.Goals as goal
 
 pub flusher_turn-requires : goal.flusher_turn-requires
 flusher_turn-requires g c = record {
-  whole = tt;
-  at = (omega arith, omega (arith, c.requires.there.0, c.args.self.now.counted, c.args.self.now.few), c.requires.there.0);
+  at = (omega (arith, c.requires.there.0, c.args.self.now.counted, c.args.self.now.few), c.requires.there.0);
   worker = lent g.B.ShardNaming.names c.args.worker.now c.worker.inside.workers.items c.args.shard c.in-Some.own.now c.worker.view_is
       (search rules) c.in-Some.ensures.value c.requires.workers;
 }
 
 pub returns-clause-turn : goal.returns-clause-turn
 returns-clause-turn g c =
-    worked (WritesOne (g.B.ShardNaming.names c.args.shard) c.flusher_turn.result) c.args.worker.now c.worker.inside.workers.items c.args.shard
+    worked (WritesOne (g.B.ShardNaming.names c.args.shard) (g.G.Gate.passed c.args.gate.now) c.flusher_turn.result) c.args.worker.now c.worker.inside.workers.items c.args.shard
     c.in-Some.own.now c.flusher_turn.new.worker c.worker.view_is (search rules) c.in-Some.ensures.value c.flusher_turn.ensures.turn
 
 pub returns-clause-workers : goal.returns-clause-workers

@@ -1,0 +1,10 @@
+use Rattle.std.proofs.Common.{arith, ◌≡◌}
+use Rattle.shared.proofs.shards.place.Place.pwrite.Goals as goal
+
+pub returns-clause-foreign : goal.returns-clause-foreign
+returns-clause-foreign g c =
+    let here : c.args.shard ≡ g.row.K = omega (arith, c.requires.at.0, c.requires.at.1) in rw here c.pwrite_in.ensures.foreign
+
+pub returns-clause-call : goal.returns-clause-call
+returns-clause-call g c =
+    let here : c.args.shard ≡ g.row.K = omega (arith, c.requires.at.0, c.requires.at.1) in rw here c.pwrite_in.ensures.call

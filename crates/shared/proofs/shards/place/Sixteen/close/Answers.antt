@@ -1,0 +1,43 @@
+use Rattle.std.proofs.Common.{lit<, refl}
+use Rattle.shared.proofs.shards.place.Sixteen.close.Goals as goal
+
+pub close-requires-2 : goal.close-requires-2
+close-requires-2 g c =
+    let own = c.requires.ended.0 in
+    let rows = c.requires.ended.1 in
+    let all = c.requires.ended.2 in
+    let ended = c.requires.ended.3 in
+    let after_1 = c.close.ensures.ended own rows all ended in
+    (lit< tt, ((refl, refl, refl), (own, rows, all, after_1)))
+
+pub close-requires-3 : goal.close-requires-3
+close-requires-3 g c =
+    let own = c.requires.ended.0 in
+    let rows = c.requires.ended.1 in
+    let all = c.requires.ended.2 in
+    let ended = c.requires.ended.3 in
+    let after_1 = c.close.ensures.ended own rows all ended in
+    let after_2 = c.close-2.ensures.ended own rows all after_1 in
+    (lit< tt, ((refl, refl, refl), (own, rows, all, after_2)))
+
+pub close-requires-4 : goal.close-requires-4
+close-requires-4 g c =
+    let own = c.requires.ended.0 in
+    let rows = c.requires.ended.1 in
+    let all = c.requires.ended.2 in
+    let ended = c.requires.ended.3 in
+    let after_1 = c.close.ensures.ended own rows all ended in
+    let after_2 = c.close-2.ensures.ended own rows all after_1 in
+    let after_3 = c.close-3.ensures.ended own rows all after_2 in
+    (lit< tt, ((refl, refl, refl), (own, rows, all, after_3)))
+
+pub returns : goal.returns
+returns g c =
+    record {
+      ended = λ own rows all ended.
+          let after_1 = c.close.ensures.ended own rows all ended in
+          let after_2 = c.close-2.ensures.ended own rows all after_1 in
+          let after_3 = c.close-3.ensures.ended own rows all after_2 in
+          let after_4 = c.close-4.ensures.ended own rows all after_3 in
+          after_4;
+    }
