@@ -14,7 +14,7 @@ ghost use Rattle.filesvc.specs.Made.{IsMadeOf};
 ghost use Rattle.filesvc.specs.Service.{CameFrom, IsRefusal, IsSettledAtOnce, IsSoonOver, IsUntried, Names, Serves, Tells, count_of, files, read_reply};
 
 use crate::handle::Handle;
-use crate::room::Span;
+use crate::room::Demand;
 use crate::solo::{MAX_ATTEMPTS, Solo};
 use blockdev::BlockDevice;
 use cachecore::ReadAnswer;
@@ -71,13 +71,13 @@ impl<D: BlockDevice> Solo<D> {
             ReadAnswer::Bytes(count) => return Ok(Some(count)),
             ReadAnswer::Miss(page) | ReadAnswer::Wait(page) => {
                 let count = self.count_within(handle, offset, most);
-                let span = Span {
+                let demand = Demand {
                     handle,
                     offset,
                     count,
                     dirties: false,
                 };
-                self.fill(span, page)?
+                self.fill(demand, page)?
             }
         }
         Ok(None)

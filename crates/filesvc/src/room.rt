@@ -17,7 +17,7 @@ use pc_types::{FileId, HandleId, PageIndex, Refusal};
 
 /// The bytes of a handle's file that a call reads or changes, whose pages it needs.
 #[derive(Clone, Copy)]
-pub(crate) struct Span {
+pub(crate) struct Demand {
     pub(crate) handle: HandleId,
     pub(crate) offset: u64,
     pub(crate) count: u64,
@@ -26,29 +26,29 @@ pub(crate) struct Span {
 }
 
 impl<D: BlockDevice> Solo<D> {
-    /// Fills a page that a call on this span of bytes lacks. First room is made for all pages that it lacks: made for this one alone
+    /// Fills a page that a call on these bytes lacks. First room is made for all pages that it lacks: made for this one alone
     /// it could cost the call another of its pages (decision 111).
-    pub(crate) fn fill(&mut self, span: Span, page: PageIndex) -> Result<(), Refusal>
-        requires missed { IsMissed self.old span.handle.0 span.offset span.count page.0 }
-        ensures helps { Helps span.handle.0 (Some page) self.old self.new }
+    pub(crate) fn fill(&mut self, demand: Demand, page: PageIndex) -> Result<(), Refusal>
+        requires missed { IsMissed self.old demand.handle.0 demand.offset demand.count page.0 }
+        ensures helps { Helps demand.handle.0 (Some page) self.old self.new }
         ensures attempts { self.new.attempts ≡ self.old.attempts }
-        ensures refused { IfErr result (λ r. IsFillRefusal self.old span.handle page (wants span.dirties self.new.world.core span.handle.0 span.offset span.count) r self.new) }
-        ensures gains { OnOk result (need span.dirties self.new.world.core span.handle.0 span.offset span.count < need span.dirties self.old.world.core span.handle.0 span.offset span.count) }
+        ensures refused { IfErr result (λ r. IsFillRefusal self.old demand.handle page (wants demand.dirties self.new.world.core demand.handle.0 demand.offset demand.count) r self.new) }
+        ensures gains { OnOk result (need demand.dirties self.new.world.core demand.handle.0 demand.offset demand.count < need demand.dirties self.old.world.core demand.handle.0 demand.offset demand.count) }
     {
-        self.make_way(span)?;
-        self.fill_once(span, page)
+        self.make_way(demand)?;
+        self.fill_once(demand, page)
     }
 
     /// Fills a page. A frame is free for it.
-    fn fill_once(&mut self, span: Span, page: PageIndex) -> Result<(), Refusal>
-        requires missed { IsMissed self.old span.handle.0 span.offset span.count page.0 }
-        requires room { wants span.dirties self.old.world.core span.handle.0 span.offset span.count ≡ None }
-        ensures helps { Helps span.handle.0 (Some page) self.old self.new }
+    fn fill_once(&mut self, demand: Demand, page: PageIndex) -> Result<(), Refusal>
+        requires missed { IsMissed self.old demand.handle.0 demand.offset demand.count page.0 }
+        requires room { wants demand.dirties self.old.world.core demand.handle.0 demand.offset demand.count ≡ None }
+        ensures helps { Helps demand.handle.0 (Some page) self.old self.new }
         ensures attempts { self.new.attempts ≡ self.old.attempts }
-        ensures refused { IfErr result (λ r. IsFillRefusal self.old span.handle page (wants span.dirties self.new.world.core span.handle.0 span.offset span.count) r self.new) }
-        ensures gains { OnOk result (need span.dirties self.new.world.core span.handle.0 span.offset span.count < need span.dirties self.old.world.core span.handle.0 span.offset span.count) }
+        ensures refused { IfErr result (λ r. IsFillRefusal self.old demand.handle page (wants demand.dirties self.new.world.core demand.handle.0 demand.offset demand.count) r self.new) }
+        ensures gains { OnOk result (need demand.dirties self.new.world.core demand.handle.0 demand.offset demand.count < need demand.dirties self.old.world.core demand.handle.0 demand.offset demand.count) }
     {
-        let why = match fill_page(&mut self.world, span.handle, page) {
+        let why = match fill_page(&mut self.world, demand.handle, page) {
             Reply::Failed(code) => Refusal::Io(code),
             Reply::Refused(refusal) => refusal,
             _ => return Ok(()),
@@ -57,17 +57,17 @@ impl<D: BlockDevice> Solo<D> {
     }
 
     /// Makes room for a call: until as many frames are free as it lacks pages, and no more pages would be dirty than may be.
-    pub(crate) fn make_way(&mut self, span: Span) -> Result<(), Refusal>
-        ensures helps { (page : Option PageIndex) → Helps span.handle.0 page self.old self.new }
+    pub(crate) fn make_way(&mut self, demand: Demand) -> Result<(), Refusal>
+        ensures helps { (page : Option PageIndex) → Helps demand.handle.0 page self.old self.new }
         ensures attempts { self.new.attempts ≡ self.old.attempts }
-        ensures made { OnOk result (wants span.dirties self.new.world.core span.handle.0 span.offset span.count ≡ None) }
-        ensures kept { wants span.dirties self.old.world.core span.handle.0 span.offset span.count ≡ None → OnOk result (self.new ≡ self.old) }
+        ensures made { OnOk result (wants demand.dirties self.new.world.core demand.handle.0 demand.offset demand.count ≡ None) }
+        ensures kept { wants demand.dirties self.old.world.core demand.handle.0 demand.offset demand.count ≡ None → OnOk result (self.new ≡ self.old) }
         ensures absent { OnOk result (StaysAbsent self.old.world.core self.new.world.core) }
-        ensures refused { IfErr result (λ r. IsWayRefusal self.old (wants span.dirties self.new.world.core span.handle.0 span.offset span.count) r self.new) }
+        ensures refused { IfErr result (λ r. IsWayRefusal self.old (wants demand.dirties self.new.world.core demand.handle.0 demand.offset demand.count) r self.new) }
     {
-        'turns: while let Some(want) = self.wants(span) {
+        'turns: while let Some(want) = self.wants(demand) {
             match want {
-                Want::Frames(short) => self.make_rooms(span, short)?,
+                Want::Frames(short) => self.make_rooms(demand, short)?,
                 Want::Clean => self.make_room(Refusal::DirtyLimit)?,
             }
         }
@@ -75,26 +75,26 @@ impl<D: BlockDevice> Solo<D> {
     }
 
     /// Which room a call wants: frames, or fewer dirty pages.
-    fn wants(&self, span: Span) -> Option<Want>
-        ensures wanted { refusal_of result ≡ wants span.dirties self.now.world.core span.handle.0 span.offset span.count }
-        ensures short { IfSome result (IsShort self.now.world.core span.handle.0 span.offset span.count) }
+    fn wants(&self, demand: Demand) -> Option<Want>
+        ensures wanted { refusal_of result ≡ wants demand.dirties self.now.world.core demand.handle.0 demand.offset demand.count }
+        ensures short { IfSome result (IsShort self.now.world.core demand.handle.0 demand.offset demand.count) }
     {
         self.world
-            .wants(span.handle, span.offset, span.count, span.dirties)
+            .wants(demand.handle, demand.offset, demand.count, demand.dirties)
     }
 
     /// Makes room for as many frames as a call is short of.
     ///
     /// Each time one frame at most becomes free, and no page becomes cached. So the call is short of frames till the last time, and its
     /// pages are not looked up between (decision 169).
-    fn make_rooms(&mut self, span: Span, short: u64) -> Result<(), Refusal>
-        requires { short ≡ frames_short self.old.world.core span.handle.0 span.offset span.count }
-        ensures helps { (page : Option PageIndex) → Helps span.handle.0 page self.old self.new }
+    fn make_rooms(&mut self, demand: Demand, short: u64) -> Result<(), Refusal>
+        requires { short ≡ frames_short self.old.world.core demand.handle.0 demand.offset demand.count }
+        ensures helps { (page : Option PageIndex) → Helps demand.handle.0 page self.old self.new }
         ensures attempts { self.new.attempts ≡ self.old.attempts }
-        ensures rooms { OnOk result (MakesRooms span.handle.0 span.offset span.count short self.old self.new) }
+        ensures rooms { OnOk result (MakesRooms demand.handle.0 demand.offset demand.count short self.old self.new) }
         ensures less { OnOk result (load self.new.world.core + short ≤ load self.old.world.core) }
         ensures absent { OnOk result (StaysAbsent self.old.world.core self.new.world.core) }
-        ensures refused { IfErr result (λ r. IsWayRefusal self.old (wants span.dirties self.new.world.core span.handle.0 span.offset span.count) r self.new) }
+        ensures refused { IfErr result (λ r. IsWayRefusal self.old (wants demand.dirties self.new.world.core demand.handle.0 demand.offset demand.count) r self.new) }
     {
         'frames: for _ in 0..short {
             self.make_room(Refusal::NoFrame)?;

@@ -13,7 +13,7 @@ ghost use Rattle.filesvc.specs.Rooms.{Stops, need};
 ghost use Rattle.filesvc.specs.Service.{CameFrom, FilesAfter, IsRefusal, IsSettledAtOnce, IsUntried, IsSoonOver, Keeps, LengthsAfter, Names, count_of, cursor_after, truncate_reply, wants, write_event, write_reply, wrote_reply};
 
 use crate::handle::Handle;
-use crate::room::Span;
+use crate::room::Demand;
 use crate::solo::{MAX_ATTEMPTS, Solo};
 use blockdev::BlockDevice;
 use cachecore::{TruncateAnswer, WriteAnswer};
@@ -120,7 +120,7 @@ impl<D: BlockDevice> Solo<D> {
         let answer = self.world.write(handle, offset, bytes);
         let count = bytes.len() as u64;
         self.after_write(
-            Span {
+            Demand {
                 handle,
                 offset,
                 count,
@@ -141,7 +141,7 @@ impl<D: BlockDevice> Solo<D> {
         let answer = self.world.append(handle, bytes);
         let count = bytes.len() as u64;
         self.after_write(
-            Span {
+            Demand {
                 handle,
                 offset,
                 count,
@@ -154,19 +154,19 @@ impl<D: BlockDevice> Solo<D> {
     /// What an attempt to write comes to after its answer: how the write ended, or nothing where it is to be made again.
     fn after_write(
         &mut self,
-        span: Span,
+        demand: Demand,
         answer: Result<WriteAnswer, Refusal>,
     ) -> Result<Option<Wrote>, Refusal>
-        requires dirties { span.dirties ≡ true }
-        requires stops { Stops self.old span.handle.0 span.offset span.count (wrote answer) }
-        ensures follows { Follows self.old span.handle (wrote answer) (wants span.dirties self.new.world.core span.handle.0 span.offset span.count) (write_over result) self.new }
-        ensures gains { write_over result ≡ None → need true self.new.world.core span.handle.0 span.offset span.count < need true self.old.world.core span.handle.0 span.offset span.count }
+        requires dirties { demand.dirties ≡ true }
+        requires stops { Stops self.old demand.handle.0 demand.offset demand.count (wrote answer) }
+        ensures follows { Follows self.old demand.handle (wrote answer) (wants demand.dirties self.new.world.core demand.handle.0 demand.offset demand.count) (write_over result) self.new }
+        ensures gains { write_over result ≡ None → need true self.new.world.core demand.handle.0 demand.offset demand.count < need true self.old.world.core demand.handle.0 demand.offset demand.count }
     {
         match answer {
             Ok(WriteAnswer::Wrote { count, end }) => return Ok(Some(Wrote { count, end })),
-            Ok(WriteAnswer::Miss(page)) | Ok(WriteAnswer::Wait(page)) => self.fill(span, page)?,
-            Err(Refusal::NoFrame) => self.make_way(span)?,
-            Err(Refusal::DirtyLimit) => self.make_way(span)?,
+            Ok(WriteAnswer::Miss(page)) | Ok(WriteAnswer::Wait(page)) => self.fill(demand, page)?,
+            Err(Refusal::NoFrame) => self.make_way(demand)?,
+            Err(Refusal::DirtyLimit) => self.make_way(demand)?,
             Err(refusal) => return Err(refusal),
         }
         Ok(None)
@@ -206,13 +206,13 @@ impl<D: BlockDevice> Solo<D> {
             TruncateAnswer::Done => return Ok(true),
             TruncateAnswer::Miss(page) | TruncateAnswer::Wait(page) => {
                 // the byte behind the new end is of the page that is cut into
-                let span = Span {
+                let demand = Demand {
                     handle,
                     offset: size,
                     count: 1,
                     dirties: false,
                 };
-                self.fill(span, page)?
+                self.fill(demand, page)?
             }
         }
         Ok(false)

@@ -14,7 +14,7 @@ ghost use Rattle.shared.specs.Settled.{FillsMissed, Settles};
 
 use crate::cache::SharedCache;
 use crate::handle::Handle;
-use crate::room::Span;
+use crate::room::Demand;
 use blockdev::BlockDevice;
 use cachecore::ReadAnswer;
 use held::denied::{Denied, without_slip};
@@ -151,13 +151,13 @@ impl<B: Naming, D: BlockDevice, T: Trail> SharedCache<B, D, T> {
         };
         let size = guard.core().size(handle).unwrap_or(0);
         drop(guard);
-        let span = Span {
+        let demand = Demand {
             handle,
             offset,
             count: most.min(size.saturating_sub(offset)),
             dirties: false,
         };
-        match self.fill(rt, seat, span, page) {
+        match self.fill(rt, seat, demand, page) {
             Ok(()) => Ok(None),
             Err(denied) => Err(denied),
         }

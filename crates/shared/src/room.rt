@@ -30,7 +30,7 @@ use trail::Trail;
 
 /// The bytes of a handle's file that a call reads or changes, whose pages it needs.
 #[derive(Clone, Copy)]
-pub(crate) struct Span {
+pub(crate) struct Demand {
     pub(crate) handle: HandleId,
     pub(crate) offset: u64,
     pub(crate) count: u64,
@@ -39,29 +39,29 @@ pub(crate) struct Span {
 }
 
 impl<B: Naming, D: BlockDevice, T: Trail> SharedCache<B, D, T> {
-    /// Fills a page that a call on this span of bytes lacks. First room is made for all pages that it lacks: made for this one alone
+    /// Fills a page that a call on these bytes lacks. First room is made for all pages that it lacks: made for this one alone
     /// it could cost the call another of its pages.
     #[tactic(auto, using(held::proofs::Seats::goes_by, held::proofs::Seats::goes_on, held::proofs::Seats::goes_same, crate::proofs::Making::goes_denied, crate::proofs::Making::help_room, crate::proofs::Making::help_on, crate::proofs::Owning::only_room, crate::proofs::Owning::only_filled, crate::proofs::Rooming::lost_unwanted))]
     pub(crate) fn fill<R: Wait>(
         &self,
         rt: &R,
         seat: &mut Seat,
-        span: Span,
+        demand: Demand,
         page: PageIndex,
     ) -> Result<(), Denied>
         requires { seat.old.table ≡ B.table }
         ensures goes { Goes seat.old seat.new }
-        ensures only { Only (λ e. IsHelp span.handle e.event) seat.old seat.new }
-        ensures denied { IfErr result (IsDenied B.files B.sizes B.name B.whole (IsHelp span.handle) seat.old seat.new) }
+        ensures only { Only (λ e. IsHelp demand.handle e.event) seat.old seat.new }
+        ensures denied { IfErr result (IsDenied B.files B.sizes B.name B.whole (IsHelp demand.handle) seat.old seat.new) }
         ensures lost { IfErr result (IsLost B.files B.sizes B.name seat.new) }
         ensures stands { IfErr result (IsFinal B.files B.sizes B.name seat.new) }
         ensures settled { Settles B.name seat.old seat.new }
         ensures page { Only (λ e. FillsNoOther page e.event) seat.old seat.new }
     {
-        if let Err(denied) = self.make_way(rt, seat, span) {
+        if let Err(denied) = self.make_way(rt, seat, demand) {
             return Err(denied);
         }
-        self.fill_once(rt, seat, span.handle, page)
+        self.fill_once(rt, seat, demand.handle, page)
     }
 
     /// Fills a page. Where it is refused for want of room some is made, or the end of a request waited for.
@@ -105,7 +105,7 @@ impl<B: Naming, D: BlockDevice, T: Trail> SharedCache<B, D, T> {
         &self,
         rt: &R,
         seat: &mut Seat,
-        span: Span,
+        demand: Demand,
     ) -> Result<(), Denied>
         requires { seat.old.table ≡ B.table }
         ensures goes { Goes seat.old seat.new }
@@ -119,7 +119,7 @@ impl<B: Naming, D: BlockDevice, T: Trail> SharedCache<B, D, T> {
             let guard = self.state.lock(rt);
             let Some(want) = guard
                 .core()
-                .wants(span.handle, span.offset, span.count, span.dirties)
+                .wants(demand.handle, demand.offset, demand.count, demand.dirties)
             else {
                 return Ok(());
             };

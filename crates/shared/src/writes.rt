@@ -21,7 +21,7 @@ ghost use Rattle.shared.specs.declared.writes.Change.TheVariants as change;
 
 use crate::cache::SharedCache;
 use crate::handle::Handle;
-use crate::room::{Span, wants_room};
+use crate::room::{Demand, wants_room};
 use blockdev::BlockDevice;
 use cachecore::{TruncateAnswer, WriteAnswer};
 use held::denied::{Denied, without_slip};
@@ -224,11 +224,11 @@ impl<B: Naming, D: BlockDevice, T: Trail> SharedCache<B, D, T> {
         ensures first { OwnFirst (event_of change handle bytes.now) seat.old seat.new }
     {
         let mut guard = self.state.lock(rt);
-        let span = span_of(&guard, handle, change, bytes);
+        let demand = demand_of(&guard, handle, change, bytes);
         let (answer, slip) = match change_by(&mut guard, seat, handle, change, bytes) {
             Ok(made) => made,
             Err(denied) => {
-                return match self.settle(rt, guard, seat, span, denied) {
+                return match self.settle(rt, guard, seat, demand, denied) {
                     Ok(()) => Ok(None),
                     Err(denied) => Err(denied),
                 };
@@ -243,7 +243,7 @@ impl<B: Naming, D: BlockDevice, T: Trail> SharedCache<B, D, T> {
             WriteAnswer::Miss(page) => page,
         };
         drop(guard);
-        match self.fill(rt, seat, span, page) {
+        match self.fill(rt, seat, demand, page) {
             Ok(()) => Ok(None),
             Err(denied) => Err(denied),
         }
@@ -257,7 +257,7 @@ impl<B: Naming, D: BlockDevice, T: Trail> SharedCache<B, D, T> {
         rt: &R,
         guard: MutexGuard<'_, Held<B, T>>,
         seat: &mut Seat,
-        span: Span,
+        demand: Demand,
         denied: Denied,
     ) -> Result<(), Denied>
         requires { seat.old.table ≡ B.table }
@@ -280,7 +280,7 @@ impl<B: Naming, D: BlockDevice, T: Trail> SharedCache<B, D, T> {
         if is_roomy {
             return Ok(());
         }
-        self.make_way(rt, seat, span)
+        self.make_way(rt, seat, demand)
     }
 }
 
@@ -325,12 +325,12 @@ fn as_write(answer: TruncateAnswer, size: u64) -> WriteAnswer
 }
 
 /// The bytes of the file whose pages a change needs.
-fn span_of<B: Naming, T: Trail>(
+fn demand_of<B: Naming, T: Trail>(
     state: &Held<B, T>,
     handle: HandleId,
     change: Change,
     bytes: &[u8],
-) -> Span
+) -> Demand
     ensures { result.handle ≡ handle }
 {
     let (offset, count) = match change {
@@ -339,7 +339,7 @@ fn span_of<B: Naming, T: Trail>(
         // the byte behind the new end is of the page that is cut into
         Change::Truncate(size) => (size, 1),
     };
-    Span {
+    Demand {
         handle,
         offset,
         count,

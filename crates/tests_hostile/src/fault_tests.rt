@@ -8,7 +8,7 @@ use std::alloc::Global;
 use std::process::Abort;
 use std::test::Fail;
 use storm_text::Refused;
-use torture::{Call, Calls, Failing, Made, Plan, Played, Room, Span, play};
+use torture::{Call, Calls, Failing, Made, Piece, Plan, Played, Room, play};
 
 /// A run that is played again and again.
 #[derive(Drop)]
@@ -106,7 +106,7 @@ fn made(call: Call) -> Made {
 }
 
 fn pwrite(offset: u64, count: usize) -> Made {
-    made(Call::Pwrite(offset, Span { from: 7, count }))
+    made(Call::Pwrite(offset, Piece { from: 7, count }))
 }
 
 fn pread(offset: u64, count: usize) -> Made {

@@ -7,7 +7,7 @@ use crate::chance::Chance;
 use crate::desk::Desk;
 use crate::due::{Due, Faults, Odd, Told, Wrong, judge, judge_poll, judge_sync};
 use crate::plan::Plan;
-use crate::step::{Call, MOST, POOL, Span, Step, Steps};
+use crate::step::{Call, MOST, POOL, Piece, Step, Steps};
 use blockdev::BlockDevice;
 use faulty::Log;
 use filesvc::Seek;
@@ -214,8 +214,8 @@ impl<D: BlockDevice> Game<D> {
     /// is closed.
     fn possible(&self, room: &Room, at: usize, call: Call) -> Call {
         match call {
-            Call::Pwrite(offset, span) => fitting(room, at, offset, span, call),
-            Call::Write(span) => fitting(room, at, room.book.write_place(at), span, call),
+            Call::Pwrite(offset, piece) => fitting(room, at, offset, piece, call),
+            Call::Write(piece) => fitting(room, at, room.book.write_place(at), piece, call),
             Call::Open(_, _) if room.book.handles() >= MOST_HANDLES => Call::Close,
             Call::Close if room.book.handles() <= self.base => Call::Poll,
             other => other,
@@ -226,8 +226,8 @@ impl<D: BlockDevice> Game<D> {
         match call {
             Call::Pread(offset, count) => self.pread(room, at, offset, count),
             Call::Read(count) => self.read(room, at, count),
-            Call::Pwrite(offset, span) => self.pwrite(room, at, offset, span),
-            Call::Write(span) => self.write(room, at, span),
+            Call::Pwrite(offset, piece) => self.pwrite(room, at, offset, piece),
+            Call::Write(piece) => self.write(room, at, piece),
             Call::Truncate(size) => self.truncate(room, at, size),
             Call::Seek(place) => self.seek(room, at, place),
             Call::Fsync => self.fsync(room, at).map(|_| ()),
@@ -309,24 +309,24 @@ impl<D: BlockDevice> Game<D> {
         }
     }
 
-    fn pwrite(&mut self, room: &mut Room, at: usize, offset: u64, span: Span) -> Result<(), Odd> {
-        let due = room.book.write_due(at, offset, span.count as u64);
+    fn pwrite(&mut self, room: &mut Room, at: usize, offset: u64, piece: Piece) -> Result<(), Odd> {
+        let due = room.book.write_due(at, offset, piece.count as u64);
         let before = self.log.get();
-        let answer = self.desk.pwrite(at, offset, bytes_of(&room.pool, span));
+        let answer = self.desk.pwrite(at, offset, bytes_of(&room.pool, piece));
         match self.settle(room, &before, answer, due, true)? {
-            Some(_) => self.wrote(room, at, offset, span),
+            Some(_) => self.wrote(room, at, offset, piece),
             None => Ok(()),
         }
     }
 
-    fn write(&mut self, room: &mut Room, at: usize, span: Span) -> Result<(), Odd> {
+    fn write(&mut self, room: &mut Room, at: usize, piece: Piece) -> Result<(), Odd> {
         let offset = room.book.write_place(at);
-        let due = room.book.write_due(at, offset, span.count as u64);
+        let due = room.book.write_due(at, offset, piece.count as u64);
         let before = self.log.get();
-        let answer = self.desk.write(at, bytes_of(&room.pool, span));
+        let answer = self.desk.write(at, bytes_of(&room.pool, piece));
         match self.settle(room, &before, answer, due, true)? {
             Some(count) => {
-                self.wrote(room, at, offset, span)?;
+                self.wrote(room, at, offset, piece)?;
                 self.put_cursor(room, at, offset.saturating_add(count))
             }
             None => self.check_cursor(room, at),
@@ -334,14 +334,14 @@ impl<D: BlockDevice> Game<D> {
     }
 
     /// Writes the bytes into the plain file, too.
-    fn wrote(&self, room: &mut Room, at: usize, offset: u64, span: Span) -> Result<(), Odd> {
-        if span.count > 0 {
+    fn wrote(&self, room: &mut Room, at: usize, offset: u64, piece: Piece) -> Result<(), Odd> {
+        if piece.count > 0 {
             room.book.note_writer(at);
         }
         if self.forgets {
             return Ok(());
         }
-        let bytes = bytes_of(&room.pool, span);
+        let bytes = bytes_of(&room.pool, piece);
         match room.book.write(at, offset, bytes) {
             Ok(()) => Ok(()),
             Err(_) => Err(Odd::Memory),
@@ -527,22 +527,22 @@ impl<D: BlockDevice> Game<D> {
 }
 
 /// The write, or a truncation where it is not refused and the plain file has no room for it.
-fn fitting(room: &Room, at: usize, offset: u64, span: Span, call: Call) -> Call {
-    let count = span.count as u64;
+fn fitting(room: &Room, at: usize, offset: u64, piece: Piece, call: Call) -> Call {
+    let count = piece.count as u64;
     match room.book.write_due(at, offset, count) {
         Due::Number(_) if count > 0 && !room.book.takes(at, offset, count) => {
-            Call::Truncate(span.from as u64 % 64)
+            Call::Truncate(piece.from as u64 % 64)
         }
         Due::Refusal(Refusal::NoSpace) if !room.book.takes(at, offset, count) => {
-            Call::Truncate(span.from as u64 % 64)
+            Call::Truncate(piece.from as u64 % 64)
         }
         _ => call,
     }
 }
 
 /// The bytes of a write.
-fn bytes_of(pool: &[u8], span: Span) -> &[u8] {
-    let from = span.from.min(pool.len());
-    let count = span.count.min(pool.len() - from);
+fn bytes_of(pool: &[u8], piece: Piece) -> &[u8] {
+    let from = piece.from.min(pool.len());
+    let count = piece.count.min(pool.len() - from);
     &pool[from..from + count]
 }

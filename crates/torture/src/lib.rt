@@ -24,5 +24,5 @@ pub use game::{Calls, Made};
 pub use halves::{Trial, fewest};
 pub use plan::{Failing, Plan};
 pub use run::{Played, Room, play, run_torture, torture};
-pub use step::{Call, Span};
+pub use step::{Call, Piece};
 pub use told::{Difference, Fault, Findings, Options, Wrong, tell};

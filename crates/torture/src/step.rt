@@ -11,7 +11,7 @@ use std::fmt::Display;
 
 /// The bytes of a write: so many of the pool, from this place on.
 #[derive(Clone, Copy, Debug)]
-pub struct Span {
+pub struct Piece {
     pub from: usize,
     pub count: usize,
 }
@@ -21,8 +21,8 @@ pub struct Span {
 pub enum Call {
     Pread(u64, usize),
     Read(usize),
-    Pwrite(u64, Span),
-    Write(Span),
+    Pwrite(u64, Piece),
+    Write(Piece),
     Truncate(u64),
     Seek(Seek),
     Fsync,
@@ -78,8 +78,8 @@ impl Steps {
         let call = match self.chance.below(64) {
             0..=15 => Call::Pread(self.offset(), self.count()),
             16..=19 => Call::Read(self.count()),
-            20..=33 => Call::Pwrite(self.offset(), self.span()),
-            34..=43 => Call::Write(self.span()),
+            20..=33 => Call::Pwrite(self.offset(), self.piece()),
+            34..=43 => Call::Write(self.piece()),
             44..=47 => Call::Truncate(self.offset()),
             48..=51 => Call::Seek(self.place()),
             52..=54 => Call::Fsync,
@@ -125,9 +125,9 @@ impl Steps {
         (count as usize).min(MOST)
     }
 
-    fn span(&mut self) -> Span {
+    fn piece(&mut self) -> Piece {
         let count = self.count();
-        Span {
+        Piece {
             from: self.chance.below((POOL - MOST) as u64) as usize,
             count,
         }
@@ -200,8 +200,8 @@ impl Display for Call {
         match self {
             Call::Pread(offset, count) => write!(f, "pread {offset} {count}"),
             Call::Read(count) => write!(f, "read {count}"),
-            Call::Pwrite(offset, span) => write!(f, "pwrite {offset} {}", span.count),
-            Call::Write(span) => write!(f, "write {}", span.count),
+            Call::Pwrite(offset, piece) => write!(f, "pwrite {offset} {}", piece.count),
+            Call::Write(piece) => write!(f, "write {}", piece.count),
             Call::Truncate(size) => write!(f, "truncate {size}"),
             Call::Seek(place) => write!(f, "seek {place:?}"),
             Call::Fsync => f.write_str("fsync"),

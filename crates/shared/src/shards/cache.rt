@@ -10,7 +10,7 @@ ghost use Rattle.shared.specs.ShardWorkers.{AllFrom, AreWorkers, IsFirstOf, IsWo
 use crate::cache::SharedCache;
 use crate::shards::naming::{Shard, ShardNaming};
 use crate::shards::parts::{OneParts, ShardParts};
-use crate::shards::place::{Four, Place, Sixteen, Span, at_quarter};
+use crate::shards::place::{Consecutive, Four, Place, Sixteen, at_quarter};
 use crate::shards::seat::ShardSeat;
 use crate::shards::worker::ShardWorker;
 use crate::worker::Worker;
@@ -231,7 +231,7 @@ impl<B: ShardNaming, D: BlockDevice, T: Trail> Sixteen<B, D, T> {
 }
 
 /// Caches of these shards that are made of their parts, in the room R for them.
-pub(crate) trait Made<B: ShardNaming, D: BlockDevice, T: Trail, R>: Span {
+pub(crate) trait Made<B: ShardNaming, D: BlockDevice, T: Trail, R>: Consecutive {
     /// There is room for the caches of so many shards, and nothing in it.
     ghost fits: { ℕ → R → Type 0 };
 

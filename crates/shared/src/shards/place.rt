@@ -9,7 +9,7 @@ use held::naming::Naming;
 use trail::Trail;
 
 /// Caches of shards whose numbers follow one another.
-pub(crate) trait Span {
+pub(crate) trait Consecutive {
     /// The number of the first.
     ghost first: { ℕ };
 
@@ -83,7 +83,7 @@ where
     pub(crate) part_3: Four<B, D, T, 12, 13, 14, 15>,
 }
 
-impl<B: ShardNaming, D: BlockDevice, T: Trail, const K: u64> Span for Place<B, D, T, K> {
+impl<B: ShardNaming, D: BlockDevice, T: Trail, const K: u64> Consecutive for Place<B, D, T, K> {
     ghost first = { K };
 
     ghost end = { K + 1 };
@@ -99,7 +99,7 @@ impl<
     const J: u64,
     const K: u64,
     const L: u64,
-> Span for Four<B, D, T, I, J, K, L> {
+> Consecutive for Four<B, D, T, I, J, K, L> {
     ghost first = { I };
 
     ghost end = { L + 1 };
@@ -107,7 +107,7 @@ impl<
     ghost whole = { (J ≡ I + 1) × (K ≡ J + 1) × (L ≡ K + 1) };
 }
 
-impl<B: ShardNaming, D: BlockDevice, T: Trail> Span for Sixteen<B, D, T> {
+impl<B: ShardNaming, D: BlockDevice, T: Trail> Consecutive for Sixteen<B, D, T> {
     ghost first = { 0 };
 
     ghost end = { 16 };

@@ -16,11 +16,11 @@ on_err (Err e) P Q p f = f e p
 
 pub returns-clause-refused : goal.returns-clause-refused
 returns-clause-refused g c = on_err c.fill_once.result _ _ c.fill_once.ensures.refused
-    (λ e x. fill_refusal_before c.args.self.now c.make_way.new.self c.fill_once.new.self c.args.span.handle c.args.page _ e
+    (λ e x. fill_refusal_before c.args.self.now c.make_way.new.self c.fill_once.new.self c.args.demand.handle c.args.page _ e
     (c.make_way.ensures.helps (Some c.args.page)) x)
 
 pub fill_once-requires-clause-missed : goal.fill_once-requires-clause-missed
-fill_once-requires-clause-missed g c = still_missed c.args.self.now c.make_way.new.self c.args.span.handle.0 c.args.span.offset c.args.span.count
+fill_once-requires-clause-missed g c = still_missed c.args.self.now c.make_way.new.self c.args.demand.handle.0 c.args.demand.offset c.args.demand.count
     c.args.page.0 c.requires.missed (c.make_way.ensures.helps None).serves c.in_ok-make_way.ensures.absent
 
 pub returns-in_err-make_way-clause-helps : goal.returns-in_err-make_way-clause-helps
@@ -31,5 +31,5 @@ returns-clause-helps g c = helps_trans _ _ _ (c.make_way.ensures.helps (Some c.a
 
 pub returns-clause-gains : goal.returns-clause-gains
 returns-clause-gains g c =
-    let most = no_more_needed c.args.span.dirties c.args.self.now c.make_way.new.self c.args.span.handle.0 c.args.span.offset c.args.span.count (c.make_way.ensures.helps None).serves c.in_ok-make_way.ensures.made c.in_ok-make_way.ensures.kept in
+    let most = no_more_needed c.args.demand.dirties c.args.self.now c.make_way.new.self c.args.demand.handle.0 c.args.demand.offset c.args.demand.count (c.make_way.ensures.helps None).serves c.in_ok-make_way.ensures.made c.in_ok-make_way.ensures.kept in
     on_ok c.fill_once.result _ _ c.fill_once.ensures.gains (λ l. omega arith)

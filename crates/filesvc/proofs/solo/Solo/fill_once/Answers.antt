@@ -11,34 +11,34 @@ use Rattle.filesvc.proofs.solo.Solo.fill_once.Goals.{in-Failed, in-Refused}
 pub invariant_of-self : goal.invariant_of-self
 invariant_of-self g c =
     let s : SoloSeen = record { world = c.self.inside.world; errors = c.self.inside.recorder; attempts = 0 } in
-    reboarded _ _ _ _ (at_once_service _ s _ _ _ _ _ _ (fill_begins c.args.span.handle c.args.page) refl (c.fill_page.ensures.made c.self.inside.recorder) c.self.invariant)
+    reboarded _ _ _ _ (at_once_service _ s _ _ _ _ _ _ (fill_begins c.args.demand.handle c.args.page) refl (c.fill_page.ensures.made c.self.inside.recorder) c.self.invariant)
 
 pub invariant_of-self-2 : goal.invariant_of-self-2
 invariant_of-self-2 g c =
     let s : SoloSeen = record { world = c.self.inside.world; errors = c.self.inside.recorder; attempts = 0 } in
-    reboarded _ _ _ _ (at_once_service _ s _ _ _ _ _ _ (fill_begins c.args.span.handle c.args.page) refl (c.fill_page.ensures.made c.self.inside.recorder) c.self.invariant)
+    reboarded _ _ _ _ (at_once_service _ s _ _ _ _ _ _ (fill_begins c.args.demand.handle c.args.page) refl (c.fill_page.ensures.made c.self.inside.recorder) c.self.invariant)
 
 pub returns-in_default : goal.returns-in_default
 returns-in_default g c =
     let s : SoloSeen = record { world = c.self.inside.world; errors = c.self.inside.recorder; attempts = c.self.inside.attempts } in
-    let m : IsMissed s c.args.span.handle.0 c.args.span.offset c.args.span.count c.args.page.0 = subst (λ x. IsMissed x c.args.span.handle.0 c.args.span.offset c.args.span.count c.args.page.0) (sym c.self.view_is) c.requires.missed in
-    let room : wants c.args.span.dirties s.world.core c.args.span.handle.0 c.args.span.offset c.args.span.count ≡ None = subst (λ (x : SoloSeen). wants c.args.span.dirties x.world.core c.args.span.handle.0 c.args.span.offset c.args.span.count ≡ None) (sym c.self.view_is) c.requires.room in
+    let m : IsMissed s c.args.demand.handle.0 c.args.demand.offset c.args.demand.count c.args.page.0 = subst (λ x. IsMissed x c.args.demand.handle.0 c.args.demand.offset c.args.demand.count c.args.page.0) (sym c.self.view_is) c.requires.missed in
+    let room : wants c.args.demand.dirties s.world.core c.args.demand.handle.0 c.args.demand.offset c.args.demand.count ≡ None = subst (λ (x : SoloSeen). wants c.args.demand.dirties x.world.core c.args.demand.handle.0 c.args.demand.offset c.args.demand.count ≡ None) (sym c.self.view_is) c.requires.room in
     rw (← c.self.view_is) (record {
-      helps = at_once_helps c.args.span.handle.0 (Some c.args.page) _ _ _ _ _ _ _ _ (fill_begins c.args.span.handle c.args.page) (λ i. eq-eqb c.args.span.handle.0 c.args.span.handle.0 refl i && eq-eqb c.args.page.0 c.args.page.0 refl i) (c.fill_page.ensures.made c.self.inside.recorder) c.self.invariant.serving;
+      helps = at_once_helps c.args.demand.handle.0 (Some c.args.page) _ _ _ _ _ _ _ _ (fill_begins c.args.demand.handle c.args.page) (λ i. eq-eqb c.args.demand.handle.0 c.args.demand.handle.0 refl i && eq-eqb c.args.page.0 c.args.page.0 refl i) (c.fill_page.ensures.made c.self.inside.recorder) c.self.invariant.serving;
       attempts = refl;
       refused = tt;
-      gains = fill_gains _ s _ c.self.invariant.serving c.args.span.dirties c.args.span.handle c.args.span.offset c.args.span.count c.args.page m room _ _ _ c.fill_page.ensures.rests.requests (c.fill_page.ensures.made c.self.inside.recorder) c.in_default.not-Refused c.in_default.not-Failed;
+      gains = fill_gains _ s _ c.self.invariant.serving c.args.demand.dirties c.args.demand.handle c.args.demand.offset c.args.demand.count c.args.page m room _ _ _ c.fill_page.ensures.rests.requests (c.fill_page.ensures.made c.self.inside.recorder) c.in_default.not-Refused c.in_default.not-Failed;
     })
 
 pub returns-clause-helps : goal.returns-clause-helps
-returns-clause-helps g c = rw (← c.self.view_is) (at_once_helps c.args.span.handle.0 (Some c.args.page) _ _ _ _ _ _ _ _ (fill_begins c.args.span.handle c.args.page) (λ i. eq-eqb c.args.span.handle.0 c.args.span.handle.0 refl i && eq-eqb c.args.page.0 c.args.page.0 refl i) (c.fill_page.ensures.made c.self.inside.recorder) c.self.invariant.serving)
+returns-clause-helps g c = rw (← c.self.view_is) (at_once_helps c.args.demand.handle.0 (Some c.args.page) _ _ _ _ _ _ _ _ (fill_begins c.args.demand.handle c.args.page) (λ i. eq-eqb c.args.demand.handle.0 c.args.demand.handle.0 refl i && eq-eqb c.args.page.0 c.args.page.0 refl i) (c.fill_page.ensures.made c.self.inside.recorder) c.self.invariant.serving)
 
 pub returns-clause-refused : goal.returns-clause-refused
 returns-clause-refused g c =
     let s : SoloSeen = record { world = c.self.inside.world; errors = c.self.inside.recorder; attempts = c.self.inside.attempts } in
-    let m : IsMissed s c.args.span.handle.0 c.args.span.offset c.args.span.count c.args.page.0 = subst (λ x. IsMissed x c.args.span.handle.0 c.args.span.offset c.args.span.count c.args.page.0) (sym c.self.view_is) c.requires.missed in
-    let room : wants c.args.span.dirties s.world.core c.args.span.handle.0 c.args.span.offset c.args.span.count ≡ None = subst (λ (x : SoloSeen). wants c.args.span.dirties x.world.core c.args.span.handle.0 c.args.span.offset c.args.span.count ≡ None) (sym c.self.view_is) c.requires.room in
+    let m : IsMissed s c.args.demand.handle.0 c.args.demand.offset c.args.demand.count c.args.page.0 = subst (λ x. IsMissed x c.args.demand.handle.0 c.args.demand.offset c.args.demand.count c.args.page.0) (sym c.self.view_is) c.requires.missed in
+    let room : wants c.args.demand.dirties s.world.core c.args.demand.handle.0 c.args.demand.offset c.args.demand.count ≡ None = subst (λ (x : SoloSeen). wants c.args.demand.dirties x.world.core c.args.demand.handle.0 c.args.demand.offset c.args.demand.count ≡ None) (sym c.self.view_is) c.requires.room in
     elim c.match-fill_page.branch [
-      | in-Failed w ↦ rw (w.why-is, ← c.self.view_is) (fill_faulted s _ _ c.args.span.handle c.args.page None w.in-Failed.code (w.in-Failed.ensures.made c.self.inside.recorder) (service_sound _ _ _ _ c.self.invariant.serving))
-      | in-Refused w ↦ rw (w.why-is, ← c.self.view_is) (fill_stopped _ s _ _ _ c.args.span.handle c.args.page _ w.in-Refused.refusal c.self.invariant.serving (w.in-Refused.ensures.made c.self.inside.recorder) (frame_free _ s _ c.self.invariant.serving c.args.span.dirties c.args.span.handle c.args.span.offset c.args.span.count c.args.page m room))
+      | in-Failed w ↦ rw (w.why-is, ← c.self.view_is) (fill_faulted s _ _ c.args.demand.handle c.args.page None w.in-Failed.code (w.in-Failed.ensures.made c.self.inside.recorder) (service_sound _ _ _ _ c.self.invariant.serving))
+      | in-Refused w ↦ rw (w.why-is, ← c.self.view_is) (fill_stopped _ s _ _ _ c.args.demand.handle c.args.page _ w.in-Refused.refusal c.self.invariant.serving (w.in-Refused.ensures.made c.self.inside.recorder) (frame_free _ s _ c.self.invariant.serving c.args.demand.dirties c.args.demand.handle c.args.demand.offset c.args.demand.count c.args.page m room))
     ]

@@ -7,10 +7,10 @@ use Rattle.filesvc.proofs.solo.Solo.make_rooms.Given as goal
 
 abbrev pub invariant-frames : goal.invariant-frames
 invariant-frames g l = record {
-  helps : (page : Option PageIndex) → Helps l.fn.span.handle.0 page l.fn.self l.self;
+  helps : (page : Option PageIndex) → Helps l.fn.demand.handle.0 page l.fn.self l.self;
   attempts : l.self.attempts ≡ l.fn.self.attempts;
-  rooms : MakesRooms l.fn.span.handle.0 l.fn.span.offset l.fn.span.count l.counter l.fn.self l.self;
+  rooms : MakesRooms l.fn.demand.handle.0 l.fn.demand.offset l.fn.demand.count l.counter l.fn.self l.self;
   less : load l.self.world.core + l.counter ≤ load l.fn.self.world.core;
   absent : StaysAbsent l.fn.self.world.core l.self.world.core;
-  short : l.fn.short ≤ l.counter + frames_short l.self.world.core l.fn.span.handle.0 l.fn.span.offset l.fn.span.count;
+  short : l.fn.short ≤ l.counter + frames_short l.self.world.core l.fn.demand.handle.0 l.fn.demand.offset l.fn.demand.count;
 }

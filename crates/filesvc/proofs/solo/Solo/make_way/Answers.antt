@@ -18,12 +18,12 @@ turns-init g c = record { helps = λ page. helps_refl c.args.self.now; attempts 
 
 pub turns-preserved-in-Continue-1 : goal.turns-preserved-in-Continue-1
 turns-preserved-in-Continue-1 g c =
-    let way : wants c.args.span.dirties c.turns.self.world.core c.args.span.handle.0 c.args.span.offset c.args.span.count ≡ Some NoFrame = sym c.in-Some.ensures.wanted ∙ ap (λ (w : Want). refusal_of (Some w)) c.in-Frames.is in
+    let way : wants c.args.demand.dirties c.turns.self.world.core c.args.demand.handle.0 c.args.demand.offset c.args.demand.count ≡ Some NoFrame = sym c.in-Some.ensures.wanted ∙ ap (λ (w : Want). refusal_of (Some w)) c.in-Frames.is in
     record {
       helps = λ page. helps_trans _ _ _ (c.turns.invariant.helps page) (c.make_rooms.ensures.helps page);
       attempts = c.make_rooms.ensures.attempts ∙ c.turns.invariant.attempts;
       absent = λ f p none. c.in_ok-make_rooms-in-Frames.ensures.absent f p (c.turns.invariant.absent f p none);
-      kept = λ none. absurd (let e : None ≡ Some NoFrame = sym (ap (λ (s : SoloSeen). wants c.args.span.dirties s.world.core c.args.span.handle.0 c.args.span.offset c.args.span.count) (c.turns.invariant.kept none) ∙ none) ∙ way in cc);
+      kept = λ none. absurd (let e : None ≡ Some NoFrame = sym (ap (λ (s : SoloSeen). wants c.args.demand.dirties s.world.core c.args.demand.handle.0 c.args.demand.offset c.args.demand.count) (c.turns.invariant.kept none) ∙ none) ∙ way in cc);
     }
 
 pub returns-in_err-make_rooms-in-Frames-clause-helps : goal.returns-in_err-make_rooms-in-Frames-clause-helps
@@ -42,22 +42,22 @@ turns-smaller g c = room_less c.turns.self c.make_room.new.self DirtyLimit c.in_
 
 pub turns-preserved : goal.turns-preserved
 turns-preserved g c =
-    let way : wants c.args.span.dirties c.turns.self.world.core c.args.span.handle.0 c.args.span.offset c.args.span.count ≡ Some DirtyLimit = sym c.in-Some.ensures.wanted ∙ ap (λ (w : Want). refusal_of (Some w)) c.in-Clean.is in
+    let way : wants c.args.demand.dirties c.turns.self.world.core c.args.demand.handle.0 c.args.demand.offset c.args.demand.count ≡ Some DirtyLimit = sym c.in-Some.ensures.wanted ∙ ap (λ (w : Want). refusal_of (Some w)) c.in-Clean.is in
     record {
-      helps = λ page. helps_trans _ _ _ (c.turns.invariant.helps page) (c.make_room.ensures.helps c.args.span.handle.0 page);
+      helps = λ page. helps_trans _ _ _ (c.turns.invariant.helps page) (c.make_room.ensures.helps c.args.demand.handle.0 page);
       attempts = c.make_room.ensures.attempts ∙ c.turns.invariant.attempts;
       absent = λ f p none. room_absent c.turns.self c.make_room.new.self DirtyLimit c.in_ok-make_room-in-Clean.ensures.made f p (c.turns.invariant.absent f p none);
-      kept = λ none. absurd (let e : None ≡ Some DirtyLimit = sym (ap (λ (s : SoloSeen). wants c.args.span.dirties s.world.core c.args.span.handle.0 c.args.span.offset c.args.span.count) (c.turns.invariant.kept none) ∙ none) ∙ way in cc);
+      kept = λ none. absurd (let e : None ≡ Some DirtyLimit = sym (ap (λ (s : SoloSeen). wants c.args.demand.dirties s.world.core c.args.demand.handle.0 c.args.demand.offset c.args.demand.count) (c.turns.invariant.kept none) ∙ none) ∙ way in cc);
     }
 
 pub returns-in_err-make_room-in-Clean-clause-helps : goal.returns-in_err-make_room-in-Clean-clause-helps
-returns-in_err-make_room-in-Clean-clause-helps g c = λ page. helps_trans _ _ _ (c.turns.invariant.helps page) (c.make_room.ensures.helps c.args.span.handle.0 page)
+returns-in_err-make_room-in-Clean-clause-helps g c = λ page. helps_trans _ _ _ (c.turns.invariant.helps page) (c.make_room.ensures.helps c.args.demand.handle.0 page)
 
 pub returns-in_err-make_room-in-Clean-clause-refused : goal.returns-in_err-make_room-in-Clean-clause-refused
 returns-in_err-make_room-in-Clean-clause-refused g c =
     let p = err_from_is_err_and c.from_residual-in_err-make_room-in-Clean.result c.from_residual-in_err-make_room-in-Clean.ensures.1 in
-    let way : wants c.args.span.dirties c.turns.self.world.core c.args.span.handle.0 c.args.span.offset c.args.span.count ≡ Some DirtyLimit = sym c.in-Some.ensures.wanted ∙ ap (λ (w : Want). refusal_of (Some w)) c.in-Clean.is in
+    let way : wants c.args.demand.dirties c.turns.self.world.core c.args.demand.handle.0 c.args.demand.offset c.args.demand.count ≡ Some DirtyLimit = sym c.in-Some.ensures.wanted ∙ ap (λ (w : Want). refusal_of (Some w)) c.in-Clean.is in
     rw (p.1, p.2) (way_refused c.args.self.now c.turns.self c.make_room.new.self (c.turns.invariant.helps None).serves
-    c.args.span.dirties c.args.span.handle.0 c.args.span.offset c.args.span.count DirtyLimit c.in_err-make_room-in-Clean.field-0.0 way
-    (wanted_room c.args.span.dirties c.turns.self.world.core c.args.span.handle.0 c.args.span.offset c.args.span.count c.turns.self refl DirtyLimit way)
+    c.args.demand.dirties c.args.demand.handle.0 c.args.demand.offset c.args.demand.count DirtyLimit c.in_err-make_room-in-Clean.field-0.0 way
+    (wanted_room c.args.demand.dirties c.turns.self.world.core c.args.demand.handle.0 c.args.demand.offset c.args.demand.count c.turns.self refl DirtyLimit way)
     c.in_err-make_room-in-Clean.ensures.refused c.in_err-make_room-in-Clean.ensures.frames c.in_err-make_room-in-Clean.ensures.clean)

@@ -7,10 +7,10 @@ use Rattle.filesvc.proofs.solo.Solo.make_way.Given as goal
 
 abbrev pub invariant-turns : goal.invariant-turns
 invariant-turns g l = record {
-  helps : (page : Option PageIndex) → Helps l.fn.span.handle.0 page l.fn.self l.self;
+  helps : (page : Option PageIndex) → Helps l.fn.demand.handle.0 page l.fn.self l.self;
   attempts : l.self.attempts ≡ l.fn.self.attempts;
   absent : StaysAbsent l.fn.self.world.core l.self.world.core;
-  kept : wants l.fn.span.dirties l.fn.self.world.core l.fn.span.handle.0 l.fn.span.offset l.fn.span.count ≡ None → l.self ≡ l.fn.self;
+  kept : wants l.fn.demand.dirties l.fn.self.world.core l.fn.demand.handle.0 l.fn.demand.offset l.fn.demand.count ≡ None → l.self ≡ l.fn.self;
 }
 
 abbrev pub decreases-turns : goal.decreases-turns

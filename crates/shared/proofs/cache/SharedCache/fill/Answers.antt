@@ -8,7 +8,7 @@ use Rattle.shared.proofs.cache.SharedCache.fill.Goals as goal
 
 pub returns-clause-only : goal.returns-clause-only
 returns-clause-only g c =
-    only_filled c.args.span.handle c.args.seat.now c.make_way.new.seat c.fill_once.new.seat c.make_way.ensures.only
+    only_filled c.args.demand.handle c.args.seat.now c.make_way.new.seat c.fill_once.new.seat c.make_way.ensures.only
     c.fill_once.ensures.only
 
 pub returns-clause-page : goal.returns-clause-page
@@ -18,7 +18,7 @@ returns-clause-page g c =
 
 pub returns-clause-denied : goal.returns-clause-denied
 returns-clause-denied g c =
-    let h = c.args.span.handle in
+    let h = c.args.demand.handle in
     IfErr-weaker c.fill_once.result (IsDenied g.B.Naming.files g.B.Naming.sizes g.B.Naming.name g.B.Naming.whole (IsHelp h) c.make_way.new.seat c.fill_once.new.seat)
     (IsDenied g.B.Naming.files g.B.Naming.sizes g.B.Naming.name g.B.Naming.whole (IsHelp h) c.args.seat.now c.fill_once.new.seat)
     (λ d q. help_on g.B.Naming.files g.B.Naming.sizes g.B.Naming.name g.B.Naming.whole h c.args.seat.now c.make_way.new.seat c.fill_once.new.seat d c.make_way.ensures.goes q)
@@ -31,5 +31,5 @@ returns-clause-settled g c =
 
 pub returns-in-Err-clause-denied : goal.returns-in-Err-clause-denied
 returns-in-Err-clause-denied g c =
-    help_room g.B.Naming.files g.B.Naming.sizes g.B.Naming.name g.B.Naming.whole c.args.span.handle c.args.seat.now c.make_way.new.seat
+    help_room g.B.Naming.files g.B.Naming.sizes g.B.Naming.name g.B.Naming.whole c.args.demand.handle c.args.seat.now c.make_way.new.seat
     c.in-Err.denied c.in-Err.ensures.denied

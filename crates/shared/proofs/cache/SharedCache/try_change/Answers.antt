@@ -37,7 +37,7 @@ returns-in-Err-fill-clause-denied g c =
     call_help g.B.Naming.files g.B.Naming.sizes g.B.Naming.name g.B.Naming.whole c.args.handle (event_of c.args.change c.args.handle c.args.bytes.now) c.args.seat.now
     c.change_by.new.seat c.fill.new.seat c.in-Err-fill.denied (goes_by _ _ _ _ _ _ _ c.in-Ok.ensures.made)
     (subst (λ (h : HandleId). IsDenied g.B.Naming.files g.B.Naming.sizes g.B.Naming.name g.B.Naming.whole (IsHelp h) c.change_by.new.seat c.fill.new.seat c.in-Err-fill.denied)
-    c.span_of-span.ensures c.in-Err-fill.ensures.denied)
+    c.demand_of-demand.ensures c.in-Err-fill.ensures.denied)
 
 pub returns-in-Ok-settle-clause-goes : goal.returns-in-Ok-settle-clause-goes
 returns-in-Ok-settle-clause-goes g c =
@@ -77,13 +77,13 @@ returns-in-Wait-clause-tried g c =
 pub returns-in-Ok-fill-clause-tried : goal.returns-in-Ok-fill-clause-tried
 returns-in-Ok-fill-clause-tried g c =
     only_missed c.args.handle _ _ _ _ _ _ _ _ _ c.in-Ok.ensures.made (change_plain c.args.change c.args.handle c.args.bytes.now)
-    (subst (λ (x : WriteAnswer). IsUndone (reply_of c.args.change x)) (sym c.in-Miss.is) tt) c.span_of-span.ensures
+    (subst (λ (x : WriteAnswer). IsUndone (reply_of c.args.change x)) (sym c.in-Miss.is) tt) c.demand_of-demand.ensures
     c.fill.ensures.only
 
 pub returns-in-Err-fill-clause-only : goal.returns-in-Err-fill-clause-only
 returns-in-Err-fill-clause-only g c =
     only_missed c.args.handle _ _ _ _ _ _ _ _ _ c.in-Ok.ensures.made (change_plain c.args.change c.args.handle c.args.bytes.now)
-    (subst (λ (x : WriteAnswer). IsUndone (reply_of c.args.change x)) (sym c.in-Miss.is) tt) c.span_of-span.ensures
+    (subst (λ (x : WriteAnswer). IsUndone (reply_of c.args.change x)) (sym c.in-Miss.is) tt) c.demand_of-demand.ensures
     c.fill.ensures.only
 
 pub returns-in-Ok-settle-clause-tried : goal.returns-in-Ok-settle-clause-tried
