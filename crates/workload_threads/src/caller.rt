@@ -5,13 +5,11 @@ ghost use Rattle.std.specs.Prelude.{◌≡◌, length};
 use crate::desk::Desk;
 use crate::files::COMMON;
 use crate::member::{Member, Shared};
-use crate::scale::{Plan, Scale};
-use crate::steps::{MAX_COUNT, Steps};
-use crate::tally::Tally;
 use held::naming::Naming;
 use pc_types::{FileId, Refusal};
 use std::alloc::{AllocError, Global};
 use std::sync::Wait;
+use workload_steps::{MAX_COUNT, Plan, Scale, Steps, Tally};
 
 /// A thread's seat, its own file, and which calls it makes.
 #[derive(Drop)]

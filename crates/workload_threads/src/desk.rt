@@ -3,9 +3,6 @@
 ghost use Rattle.std.specs.Prelude.{◌≡◌, IfOk, length};
 
 use crate::member::{Member, Shared};
-use crate::numbers::Bytes;
-use crate::steps::{Kind, MAX_COUNT, Step, Steps};
-use crate::tally::Tally;
 use held::denied::Denied;
 use held::log::Seat;
 use held::naming::Naming;
@@ -13,6 +10,7 @@ use pc_types::{FileId, Refusal};
 use shared::handle::Handle;
 use std::marker::PhantomData;
 use std::sync::Wait;
+use workload_steps::{Bytes, Kind, MAX_COUNT, Step, Steps, Tally};
 
 /// A seat of the cache that B names, with an own file that is written and a common one that is read, and what its calls answered.
 #[derive(Drop)]

@@ -2,12 +2,10 @@
 
 use crate::desk::Desk;
 use crate::member::{Member, Shared};
-use crate::scale::{CALLERS, Scale};
-use crate::steps::Steps;
-use crate::tally::Tally;
 use held::naming::Naming;
 use pc_types::{FileId, Refusal};
 use std::sync::Wait;
+use workload_steps::{CALLERS, Scale, Steps, Tally};
 
 /// The file that all callers read. Those before it are their own.
 pub const COMMON: FileId = FileId(CALLERS);

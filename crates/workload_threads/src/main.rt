@@ -4,8 +4,7 @@
 //!
 //! Each caller writes a file of its own and all read a common one, so the line is the same in each run with the same seed, whatever
 //! the threads do in the meantime. `threads` runs them: `caller` is one that makes calls, `crew` the workers, `member` a seat. `files`
-//! makes the files, `desk` has the calls, `steps` which ones there are, `places` where the common file is read, `scale` how large all
-//! is, `numbers` a generator, and `tally` what was answered.
+//! makes the files, and `desk` has the calls. Which ones there are is in the crate `workload_steps`.
 //!
 //! Floor: outside.
 
@@ -14,21 +13,15 @@ mod crew;
 mod desk;
 mod files;
 mod member;
-mod numbers;
-mod places;
-mod scale;
-mod steps;
-mod tally;
 mod threads;
 
-use scale::{Plan, Scale};
 use std::env;
 use std::io::Write;
 use std::process::ExitCode;
 use std::sync::Wait;
 use std::thread::Threads;
-use tally::Tally;
 use threads::run_threads;
+use workload_steps::{Plan, Tally};
 
 fn main(rt: HostRuntime) -> ExitCode {
     ExitCode::from(run_program(&rt, &rt))
@@ -56,18 +49,13 @@ fn run_program<W: Wait + Threads + Sync>(rt: &HostRuntime, threads: &W) -> u8 {
 fn plan_asked(rt: &HostRuntime) -> Option<Plan> {
     let mut words = env::args(rt).ok()?;
     let _ = words.next();
-    let scale = Scale::named(words.next()?.as_str())?;
-    let seed = words.next()?.parse().ok()?;
-    if words.next().is_some() {
-        return None;
-    }
-    Some(Plan { scale, seed })
+    let plan = Plan::read(words.next()?.as_str(), words.next()?.as_str())?;
+    words.next().is_none().then_some(plan)
 }
 
 /// Prints the line, and gives the status.
 fn print_tally(rt: &HostRuntime, tally: Tally) -> u8 {
-    let Tally { calls, digest } = tally;
-    match writeln!(rt.stdout(), "{calls} calls, digest {digest:016x}") {
+    match writeln!(rt.stdout(), "{tally}") {
         Ok(()) => 0,
         Err(_) => 1,
     }

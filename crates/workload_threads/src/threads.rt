@@ -13,9 +13,6 @@ use crate::caller::Caller;
 use crate::crew::{Back, Crew, WORKERS};
 use crate::files::make_files;
 use crate::member::{Member, Shared, members_of, seats_of};
-use crate::scale::{CALLERS, Plan};
-use crate::steps::Steps;
-use crate::tally::Tally;
 use blockdev::MemDevice;
 use held::log::Seat;
 use held::naming::Naming;
@@ -27,6 +24,7 @@ use std::marker::Brand;
 use std::sync::Wait;
 use std::thread::{Threads, join, map_vec};
 use trail::NoTrail;
+use workload_steps::{CALLERS, Plan, Steps, Tally};
 
 /// The cache's name.
 const NAME: u64 = 1;

@@ -2,6 +2,7 @@
 
 ghost use Rattle.std.specs.Prelude.{◌≤◌, length};
 
+use std::fmt;
 use std::simd::prelude::*;
 
 /// How many of the bytes that were read are taken in at once.
@@ -50,6 +51,13 @@ impl Tally {
     pub fn add_all(&mut self, other: Tally) {
         self.calls = self.calls.wrapping_add(other.calls);
         self.digest = folded(self.digest, other.digest);
+    }
+}
+
+impl fmt::Display for Tally {
+    fn fmt<W: fmt::Write>(&self, f: &mut fmt::Formatter<W>) -> fmt::Result {
+        let Tally { calls, digest } = *self;
+        write!(f, "{calls} calls, digest {digest:016x}")
     }
 }
 

@@ -24,9 +24,19 @@ pub struct Plan {
     pub seed: u32,
 }
 
+impl Plan {
+    /// What two words ask for, where they are a scale and a seed.
+    pub fn read(scale: &str, seed: &str) -> Option<Plan> {
+        Some(Plan {
+            scale: Scale::named(scale)?,
+            seed: seed.parse().ok()?,
+        })
+    }
+}
+
 impl Scale {
-    /// The scale that the program's first argument names.
-    pub fn named(word: &str) -> Option<Scale> {
+    /// The scale of this name.
+    fn named(word: &str) -> Option<Scale> {
         match word {
             "threads" => Some(Scale::Whole),
             "small" => Some(Scale::Small),
@@ -69,6 +79,15 @@ impl Scale {
         match self {
             Scale::Whole => Geometry::new(PAGE, 2_048, 1_024, 8_192),
             Scale::Small => Geometry::new(PAGE, 96, 48, 1_024),
+        }
+    }
+
+    /// The same of one of four shards, which has a caller's own file, and the first the common one as well. As many pages as one call
+    /// touches may be dirty.
+    pub fn shard_geometry(self) -> Result<Geometry, Refusal> {
+        match self {
+            Scale::Whole => Geometry::new(PAGE, 512, 256, 4_096),
+            Scale::Small => Geometry::new(PAGE, 64, 32, 512),
         }
     }
 }
