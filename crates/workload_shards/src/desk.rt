@@ -53,7 +53,7 @@ impl<B: ShardNaming> Desk<B> {
         let mut seat = member.into_seat();
         match open_both(rt, cache, &mut seat, own, common) {
             Ok((own, common)) => Ok(Desk {
-                tally: opened(cache, &own, &common),
+                tally: tally_of(cache, &own, &common),
                 seat,
                 own,
                 common,
@@ -212,7 +212,7 @@ fn front(out: &[u8], count: u64) -> &[u8] {
 }
 
 /// What opening these two has answered.
-fn opened<B: ShardNaming>(cache: &Sharded<B>, own: &Opened<B>, common: &Opened<B>) -> Tally {
+fn tally_of<B: ShardNaming>(cache: &Sharded<B>, own: &Opened<B>, common: &Opened<B>) -> Tally {
     let mut tally = Tally::NONE;
     for file in [own, common] {
         tally.add_both(cache.file_of(&file.handle).0, file.handle.cursor());
