@@ -158,6 +158,7 @@ compares slots id all made number list count c s r _ at _ =
           subst (λ l. IsPrefix list l) (sym mine.1) mine.3.1,
           mine.3.2 ∙ ap (count_of number) (sym mine.1),
           subst (λ n. number < n) (sym mine.2) mine.3.0,
+          λ n h. subst (λ l. count_of n l ≡ 0) (sym mine.1) (r.unmade n (subst (λ m. m ≤ n) mine.2 h)),
         ),
       ),
     )

@@ -7,7 +7,7 @@ use Rattle.atomic_table.specs.Table.{State, Me, Step}
 use Rattle.trail.specs.declared.entry.Entry.{Entry}
 use Rattle.held.specs.declared.views.View.{View}
 use Rattle.held.specs.declared.views.View.TheVariants.{Spent, Keeper, Holds, Seat}
-use Rattle.held.specs.Views.{count_of}
+use Rattle.held.specs.Views.{AreOfSeats, count_of}
 
 -- a seat's list begins the trail, and its count is the number of its entries there
 abbrev pub Counts : List Entry → ℕ → ℕ → List Entry → ℕ → Type 0
@@ -32,7 +32,7 @@ pub record IsKept (s : State ℕ View) : Type 0 where
   pub made : ℕ
   pub writer : ℕ
   pub word_is : s.words ≡ length log ∷ []
-  pub unmade : (number : ℕ) → made ≤ number → count_of number log ≡ 0
+  pub unmade : AreOfSeats made log
   pub each_seat : (at : ℕ) (v : View) → get_elem? s.views at ≡ some v → Fits log made writer at v
   -- each number stands in one view alone
   pub alone : (i j number : ℕ) (u v : View) → get_elem? s.views i ≡ some u → get_elem? s.views j ≡ some v
@@ -57,10 +57,10 @@ SeenFrom v found after = Unit {0}
 abbrev pub Seen : Step ℕ → Me ℕ View → ℕ → Me ℕ View → Type 0
 Seen s before found after = (after.1 ≡ before.1) × SeenFrom before.0 found after.0
 
--- the seat's list begins the trail, and its count is the number of its entries
+-- the seat's list begins the trail, and its count is the number of its entries. No entry has a number that no seat has
 abbrev pub ComparedFrom : View → View → Type 0
 ComparedFrom (Holds all made number list count) after =
-    (after ≡ Holds all made number list count) × IsPrefix list all × (count ≡ count_of number all) × (number < made)
+    (after ≡ Holds all made number list count) × IsPrefix list all × (count ≡ count_of number all) × (number < made) × AreOfSeats made all
 ComparedFrom v after = Unit {0}
 
 abbrev pub Compared : Step ℕ → Me ℕ View → ℕ → Me ℕ View → Type 0

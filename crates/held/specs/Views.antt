@@ -1,5 +1,5 @@
 -- What the seats of a trail know, and how views are cut and joined.
-use Rattle.std.specs.Prelude.{ℕ, ◌+◌, ◌==◌, List, [], ◌∷◌, if◌then◌else◌}
+use Rattle.std.specs.Prelude.{ℕ, ◌≡◌, ◌+◌, ◌≤◌, ◌==◌, List, [], ◌∷◌, if◌then◌else◌}
 use Rattle.machine.specs.declared.event.Event.TheVariants.{Age}
 use Rattle.machine.specs.declared.event.Reply.TheVariants.{Done}
 use Rattle.trail.specs.declared.entry.Entry.{Entry}
@@ -10,6 +10,10 @@ use Rattle.held.specs.declared.views.View.TheVariants.{Spent, Keeper, Holds, Sea
 abbrev pub count_of : ℕ → List Entry → ℕ
 count_of number [] = 0
 count_of number (e ∷ es) = (if e.seat == number then 1 else 0) + count_of number es
+
+-- so many seats have made all of the entries: none has the number of another
+abbrev pub AreOfSeats : ℕ → List Entry → Type 0
+AreOfSeats seats log = (number : ℕ) → seats ≤ number → count_of number log ≡ 0
 
 abbrev pub opening_view : View
 opening_view = Keeper [] 0

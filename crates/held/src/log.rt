@@ -10,9 +10,9 @@ ghost use Rattle.held.specs.Called.{Only};
 ghost use Rattle.held.specs.Entered.{Entered};
 ghost use Rattle.trail.specs.Entries.{entry_with};
 ghost use Rattle.trail.specs.Room.{fits, fits_beside, less, reserved};
-ghost use Rattle.held.specs.Shown.{AreFresh, IsFresh, IsKeeper, all_of};
+ghost use Rattle.held.specs.Shown.{AreFresh, IsFresh, IsKeeper, all_of, made_of};
 ghost use Rattle.held.specs.Steps.{IsAt, Stays};
-ghost use Rattle.held.specs.Views.{count_of};
+ghost use Rattle.held.specs.Views.{AreOfSeats, count_of};
 
 use crate::denied::{Denied, without_slip};
 use crate::steps::{enter, give_seat, look, settle, show};
@@ -205,6 +205,7 @@ impl<T: Trail> Log<T> {
         ensures cache { T.cache result ≡ Some self.name }
         ensures own { IsPrefix own.list self.history × (own.count ≡ count_of own.number self.history) }
         ensures seats { All (λ s. IsPrefix s.list self.history × (s.count ≡ count_of s.number self.history)) seats.items }
+        ensures others { AreOfSeats self.made self.history }
     {
         let Log {
             count,
@@ -328,6 +329,7 @@ fn settle_one(table: &Count, keeper: &mut Stand, seat: Seat)
     requires seat { seat.table ≡ table.now.table_id }
     ensures keeper { Stays keeper.old keeper.new × (keeper.new.me ≡ keeper.old.me) }
     ensures settled { IsPrefix seat.list (all_of keeper.old.me.0) × (seat.count ≡ count_of seat.number (all_of keeper.old.me.0)) }
+    ensures seats { AreOfSeats (made_of keeper.old.me.0) (all_of keeper.old.me.0) }
 {
     let Seat { stand, .. } = seat;
     settle(table, keeper, stand);

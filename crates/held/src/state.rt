@@ -23,7 +23,7 @@ ghost use Rattle.trail.specs.Room.{keeps_room, reserved};
 ghost use Rattle.held.specs.Called.{Only};
 ghost use Rattle.held.specs.Keeps.{IsLocked, room_after};
 ghost use Rattle.held.specs.Shown.{AreFresh, IsFresh};
-ghost use Rattle.held.specs.Views.{count_of};
+ghost use Rattle.held.specs.Views.{AreOfSeats, count_of};
 ghost use Rattle.pc_types.specs.declared.refusal.Refusal.TheVariants.{BadConfig, Memory, NoSuchFile, Stranger};
 
 use crate::log::{Log, Owned, Seat, are_all, are_named, opened};
@@ -351,6 +351,7 @@ impl<B: Naming, T: Trail> Held<B, T> {
         ensures tied { B.told ≡ true → IfOk result (λ r. Tied B.files B.sizes B.name B.blocks self.log.history r.1.state r.2) }
         ensures seats { OnOk result (All (λ s. IsPrefix s.list self.log.history × (s.count ≡ count_of s.number self.log.history)) seats.items) }
         ensures own { OnOk result (IsPrefix own.list self.log.history × (own.count ≡ count_of own.number self.log.history)) }
+        ensures others { OnOk result (AreOfSeats B.seats self.log.history) }
     {
         let name = self.log.name();
         if own.name() != name

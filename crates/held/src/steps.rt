@@ -4,7 +4,7 @@ ghost use mathlib.Core.List.{IsPrefix};
 ghost use Rattle.held.specs.Shown.{all_of, made_of, number_in, list_of, count_in, IsKeeper, IsSeat};
 ghost use Rattle.held.specs.Steps.{IsAt, Stays};
 ghost use Rattle.trail.specs.Entries.{entry_with};
-ghost use Rattle.held.specs.Views.{count_of};
+ghost use Rattle.held.specs.Views.{AreOfSeats, count_of};
 ghost use Rattle.held.specs.declared.views.View.TheVariants.{Spent, Keeper, Holds, Seat};
 
 use crate::views::{
@@ -101,6 +101,7 @@ pub(crate) fn settle(table: &Count, keeper: &mut Stand, mut seat: Stand)
     requires seat { IsSeat seat.me }
     ensures keeper { Stays keeper.old keeper.new × (keeper.new.me ≡ keeper.old.me) }
     ensures settled { IsPrefix (list_of seat.me.0) (all_of keeper.old.me.0) × (count_in seat.me.0 ≡ count_of (number_in seat.me.0) (all_of keeper.old.me.0)) × (number_in seat.me.0 < made_of keeper.old.me.0) }
+    ensures seats { AreOfSeats (made_of keeper.old.me.0) (all_of keeper.old.me.0) }
 {
     show(table, keeper, &mut seat);
 }
@@ -115,6 +116,7 @@ pub(crate) fn show(table: &Count, keeper: &mut Stand, seat: &mut Stand)
     ensures begins { IsPrefix (list_of seat.old.me.0) (all_of keeper.old.me.0) }
     ensures counted { count_in seat.old.me.0 ≡ count_of (number_in seat.old.me.0) (all_of keeper.old.me.0) }
     ensures made { number_in seat.old.me.0 < made_of keeper.old.me.0 }
+    ensures seats { AreOfSeats (made_of keeper.old.me.0) (all_of keeper.old.me.0) }
 {
     take_note(table, keeper, seat);
     compare(table, keeper);
@@ -129,6 +131,7 @@ fn compare(table: &Count, keeper: &mut Stand)
     ensures begins { IsPrefix (list_of keeper.old.me.0) (all_of keeper.old.me.0) }
     ensures counted { count_in keeper.old.me.0 ≡ count_of (number_in keeper.old.me.0) (all_of keeper.old.me.0) }
     ensures made { number_in keeper.old.me.0 < made_of keeper.old.me.0 }
+    ensures seats { AreOfSeats (made_of keeper.old.me.0) (all_of keeper.old.me.0) }
 {
     table.load::<Compares>(keeper, 0);
 }

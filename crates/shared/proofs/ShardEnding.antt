@@ -8,7 +8,7 @@ use Rattle.std.proofs.lemmas.Option.{slice_get-get_or}
 use mathlib.Core.List.{IsPrefix}
 use Rattle.blockdev.specs.Device.{Told}
 use Rattle.held.specs.Shown.{SeatSeen}
-use Rattle.held.specs.Views.{count_of}
+use Rattle.held.specs.Views.{AreOfSeats, count_of}
 use Rattle.machine.specs.State.{State}
 use Rattle.ring.specs.declared.ring.Ring.{Ring}
 use Rattle.shared.proofs.ShardFroms.{from_at}
@@ -137,6 +137,7 @@ pub closed_as : (n : CacheNames) (own : Worker) (column seats : List SeatSeen) (
     → (history : List Entry) × records history × (cache ≡ Some name) × After n.files core.sizes core.name history core
     × Drained own history core × All (λ s. IsPrefix s.list history × (s.count ≡ count_of s.number history)) column
     × (n.told ≡ true → IsLeftBy n.files n.sizes n.name n.blocks history core device) × IsCalledFor n.calls history core device
+    × AreOfSeats n.seats history
     → IsClosed n own seats records cache core device
 closed_as n own column seats records cache core device name named same disk core_is p = record {
   named = core_is.0 ∙ named;
@@ -151,6 +152,7 @@ closed_as n own column seats records cache core device name named same disk core
   seen = subst (All (λ s. IsPrefix s.list p.0 × (s.count ≡ count_of s.number p.0))) same p.5;
   left = p.6;
   called = p.7;
+  others = p.8;
 }
 
 -- ---- one shard after another, the last first

@@ -3,7 +3,7 @@ use Rattle.std.specs.Prelude.{◌≡◌, ◌<◌, ◌≤◌, ◌+◌, ◌-◌, A
 use mathlib.Core.List.{IsPrefix}
 use Rattle.blockdev.specs.Device.{Told}
 use Rattle.held.specs.Shown.{SeatSeen}
-use Rattle.held.specs.Views.{count_of}
+use Rattle.held.specs.Views.{AreOfSeats, count_of}
 use Rattle.machine.specs.State.{State}
 use Rattle.shared.specs.Keeps.{IsCalledFor, IsDisk, IsLeftBy}
 use Rattle.shared.specs.ShardNames.{CacheNames}
@@ -31,6 +31,7 @@ pub record IsClosed (n : CacheNames) (own : Worker) (seats : List SeatSeen) (rec
   pub seen : All (λ s. IsPrefix s.list history × (s.count ≡ count_of s.number history)) seats
   pub left : n.told ≡ true → IsLeftBy n.files n.sizes n.name n.blocks history core device
   pub called : IsCalledFor n.calls history core device
+  pub others : AreOfSeats n.seats history
 
 -- nothing yet, with room for so many
 abbrev pub IsRoomOf : {X Z : Type 0} → ℕ → Vec X Z → Type 0

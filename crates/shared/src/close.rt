@@ -6,7 +6,7 @@ ghost use Rattle.crossbeam_queue.specs.Passes.{view};
 ghost use Rattle.ring.specs.Order.{Stands};
 ghost use mathlib.Core.List.{IsPrefix};
 ghost use Rattle.blockdev.specs.Jobs.{IsJobFor, Task};
-ghost use Rattle.held.specs.Views.{count_of};
+ghost use Rattle.held.specs.Views.{AreOfSeats, count_of};
 ghost use Rattle.pc_types.specs.declared.refusal.Refusal.TheVariants.{Stranger};
 ghost use Rattle.held.specs.declared.log.Slip.{Slip};
 ghost use Rattle.trail.specs.History.{After};
@@ -51,7 +51,7 @@ impl<B: Naming, D: BlockDevice, T: Trail> SharedCache<B, D, T> {
         ensures ended { IfErr result (λ e. AllEnded own e.2 × (pushed_by e.2 ≡ pushed_by own) × (company_of e.2 ≡ company_of own)) }
         ensures device { IfOk result (λ r. IsDisk B.sizes (D.told r.2)) }
         ensures core { IfOk result (λ r. (r.1.state.name ≡ self.name) × (r.1.state.sizes ≡ B.sizes)) }
-        ensures closed { IfOk result (λ r. (history : List Entry) × T.records r.0 history × (T.cache r.0 ≡ Some self.name) × After B.files r.1.state.sizes r.1.state.name history r.1.state × Drained own history r.1.state × All (λ s. IsPrefix s.list history × (s.count ≡ count_of s.number history)) seats.items × (B.told ≡ true → IsLeftBy B.files B.sizes B.name B.blocks history r.1.state (D.told r.2)) × IsCalledFor B.calls history r.1.state (D.told r.2)) }
+        ensures closed { IfOk result (λ r. (history : List Entry) × T.records r.0 history × (T.cache r.0 ≡ Some self.name) × After B.files r.1.state.sizes r.1.state.name history r.1.state × Drained own history r.1.state × All (λ s. IsPrefix s.list history × (s.count ≡ count_of s.number history)) seats.items × (B.told ≡ true → IsLeftBy B.files B.sizes B.name B.blocks history r.1.state (D.told r.2)) × IsCalledFor B.calls history r.1.state (D.told r.2) × AreOfSeats B.seats history) }
     {
         let SharedCache {
             name,

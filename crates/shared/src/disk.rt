@@ -5,6 +5,7 @@ ghost use Rattle.blockdev.specs.Jobs.{IsJobFor};
 ghost use Rattle.blockdev.specs.Watching.{Clears, Makes, first_watch};
 ghost use Rattle.deeds.specs.Shown.{AreTold, bytes_of, calls_of};
 ghost use Rattle.shared.specs.Keeps.{HasMade, IsDisk, answer_of};
+ghost use Rattle.shared.specs.Synced.{EndsClean};
 
 use blockdev::{BlockDevice, Watched};
 use deeds::sides::{DeviceSide, Errand, Report};
@@ -69,10 +70,11 @@ impl<B: Naming, D: BlockDevice> Disk<B, D> {
         side.carry_out(device, job)
     }
 
-    /// Makes what was written durable, by one flush where anything was, after the entry of a slip that the seat has seen.
+    /// Makes what was written durable, by one flush where anything was, after the step that ended a sync of the seat's.
     pub(crate) fn flush_after(&mut self, seat: &Seat, slip: Slip) -> Result<Durable<B, D>, ErrCode>
         requires own { slip.name ≡ B.name }
         requires seen { (slip.name ≡ seat.now.name) × (slip.place < length seat.now.list) }
+        requires clean { EndsClean seat.now slip }
         ensures slip { IfOk result (λ d. d ≡ slip) }
         ensures written { self.old.unflushed ≡ true → Clears self.old (answer_of result) self.new }
         ensures unwritten { self.old.unflushed ≡ false → IsOk result × (self.new ≡ self.old) }

@@ -2,8 +2,8 @@ use Rattle.std.proofs.Common.{◌≡◌, List, subst, ap, ◌∙◌}
 use Rattle.std.specs.Prelude.{All}
 use mathlib.Core.List.{IsPrefix}
 use Rattle.trail.specs.declared.entry.Entry.{Entry}
-use Rattle.held.specs.Views.{count_of}
-use Rattle.held.specs.Shown.{LogSeen, SeatSeen, all_of}
+use Rattle.held.specs.Views.{AreOfSeats, count_of}
+use Rattle.held.specs.Shown.{LogSeen, SeatSeen, all_of, made_of}
 use Rattle.held.proofs.log.Log.close.Goals as goal
 
 pub returns-clause-seats : goal.returns-clause-seats
@@ -17,3 +17,9 @@ returns-clause-own g c =
     let all = ap (λ (h : LogSeen). h.history) c.self.view_is in
     subst (λ (l : List Entry). IsPrefix c.args.own.list l × (c.args.own.count ≡ count_of c.args.own.number l)) all
     c.settle_one.ensures.settled
+
+pub returns-clause-others : goal.returns-clause-others
+returns-clause-others g c =
+    subst (λ (h : LogSeen). AreOfSeats h.made h.history) c.self.view_is
+    (subst (λ m. AreOfSeats m (all_of c.self.inside.keeper.me.0)) (ap (λ m. made_of m.0) c.self.invariant.2)
+    c.settle_one.ensures.seats)

@@ -1,7 +1,7 @@
 use Rattle.std.proofs.Common.{rules, vec_len, true≢false, ◌≡◌, ◌+◌, subst, sym, ◌∙◌}
 use Rattle.std.specs.Prelude.{All}
 use mathlib.Core.List.{IsPrefix}
-use Rattle.held.specs.Views.{count_of}
+use Rattle.held.specs.Views.{AreOfSeats, count_of}
 use Rattle.held.specs.Shown.{HeldSeen, SeatSeen}
 use Rattle.held.proofs.Closes.{not_refused}
 use Rattle.deeds.specs.Shown.{calls_of, known}
@@ -38,3 +38,8 @@ pub returns-clause-counted : goal.returns-clause-counted
 returns-clause-counted g c =
     subst (λ (h : HeldSeen). calls_of (known c.self.inside.desk) ≡ ended_count h.log.history) c.self.view_is
     c.self.invariant.1.counted
+
+pub returns-clause-others : goal.returns-clause-others
+returns-clause-others g c =
+    subst (λ (h : HeldSeen). AreOfSeats g.B.Naming.seats h.log.history) c.self.view_is
+    (subst (λ m. AreOfSeats m c.self.inside.log.history) c.self.invariant.0.1.counted c.close-trail.ensures.others)

@@ -68,6 +68,7 @@ returns-in-Ok-clause-closed g c = (
       (g.D.BlockDevice.told c.into_parts-device.result.0) c.into_parts-device.ensures.made
       (kept_calls g.B.NamesDeeds.told c.drain.new.state.log.history c.in-Ok.core.state c.in-Ok.desk
       c.into_parts-device.result.1 c.in-Ok.ensures.desk c.in-Ok.ensures.counted c.close-in-Ok.ensures.knows),
+  c.in-Ok.ensures.others,
 )
 
 -- the jobs that it took were ended all the same

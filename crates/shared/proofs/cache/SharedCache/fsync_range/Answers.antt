@@ -1,7 +1,9 @@
 use Rattle.std.proofs.Common.{ap, inr, refl, subst, sym, ◌⊎◌, ◌∙◌}
 use Rattle.std.proofs.lemmas.Result.{IfErr-weaker}
 use Rattle.std.specs.Prelude.{None}
+use Rattle.machine.specs.declared.event.Event.TheVariants as event
 use Rattle.pc_types.specs.declared.ids.HandleId.{HandleId}
+use Rattle.held.specs.Called.{Makes}
 use Rattle.held.specs.declared.log.Slip.{Slip}
 use Rattle.held.specs.declared.denied.Denied.{Denied}
 use Rattle.shared.specs.Called.{is_for_now}
@@ -9,7 +11,7 @@ use Rattle.shared.specs.Polls.{Hears}
 use Rattle.shared.specs.Seen.{HandleSeen}
 use Rattle.shared.specs.Rooms.{IsFinal}
 use Rattle.shared.specs.Settled.{Settles}
-use Rattle.shared.specs.Synced.{IsNotBegun, IsSyncDenied, Reports}
+use Rattle.shared.specs.Synced.{IsNotBegun, IsSyncDenied, Reports, end_reply}
 use Rattle.shared.proofs.Hearing.{hears_told}
 use Rattle.shared.proofs.Rooming.{admitted_final, admitted_own, final_lasting}
 use Rattle.shared.proofs.Settling.{settles_same}
@@ -21,6 +23,16 @@ pub flush_after-flushed-requires-clause-own : goal.flush_after-flushed-requires-
 flush_after-flushed-requires-clause-own g c =
     syncs_of _ c.args.first c.args.last _ c.args.seat.now c.sync_pages.new.seat c.in-Ok.synced.slip g.B.Naming.name c.in-Ok.ensures.ended
     (admitted_own c.args.self.now.name c.args.seat.now.name c.args.handle.now.cache (sym c.admits.ensures ∙ c.in_default.is) ∙ c.args.self.now.named)
+
+-- and of the step that ended this sync clean
+pub flush_after-flushed-requires-clause-clean : goal.flush_after-flushed-requires-clause-clean
+flush_after-flushed-requires-clause-clean g c =
+    let s = c.in-Ok.ensures.ended in (
+      s.at,
+      s.sync,
+      subst (λ f. Makes s.at c.sync_pages.new.seat c.in-Ok.synced.slip (event.SyncStep s.sync) (end_reply f))
+          c.in_default-failed.is s.ended,
+    )
 
 pub returns-in-Err-sync_pages-clause-denied : goal.returns-in-Err-sync_pages-clause-denied
 returns-in-Err-sync_pages-clause-denied g c own here =
