@@ -3,10 +3,9 @@ use Rattle.std.proofs.lemmas.Result.{IfErr-weaker}
 use Rattle.std.specs.Prelude.{None}
 use Rattle.machine.specs.declared.event.Event.TheVariants as event
 use Rattle.pc_types.specs.declared.ids.HandleId.{HandleId}
-use Rattle.held.specs.Called.{Makes}
 use Rattle.held.specs.declared.log.Slip.{Slip}
 use Rattle.held.specs.declared.denied.Denied.{Denied}
-use Rattle.shared.specs.Called.{is_for_now}
+use Rattle.shared.specs.Called.{Makes, is_for_now}
 use Rattle.shared.specs.Polls.{Hears}
 use Rattle.shared.specs.Seen.{HandleSeen}
 use Rattle.shared.specs.Rooms.{IsFinal}
