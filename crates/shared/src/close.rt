@@ -1,29 +1,26 @@
 //! The end of a cache.
 
-ghost use Rattle.std.specs.Prelude.{◌≡◌, ◌≢◌, ◌↔◌, ◌⊎◌, ◌+◌, All, Any, Bool, IfErr, IfOk, IsErr, List, Some, true, vec_len};
+ghost use Rattle.std.specs.Prelude.{◌≡◌, ◌≢◌, ◌↔◌, ◌⊎◌, ◌+◌, All, Any, IfErr, IfOk, IsErr, List, Some, true, vec_len};
 ghost use Rattle.crossbeam_queue.specs.Fifo as fifo;
 ghost use Rattle.crossbeam_queue.specs.Passes.{view};
 ghost use Rattle.ring.specs.Order.{Stands};
 ghost use mathlib.Core.List.{IsPrefix};
-ghost use Rattle.blockdev.specs.Jobs.{IsJobFor, Task};
 ghost use Rattle.held.specs.Views.{AreOfSeats, count_of};
 ghost use Rattle.pc_types.specs.declared.refusal.Refusal.TheVariants.{Stranger};
-ghost use Rattle.held.specs.declared.log.Slip.{Slip};
 ghost use Rattle.trail.specs.History.{After};
 ghost use Rattle.trail.specs.declared.entry.Entry.{Entry};
 ghost use Rattle.held.specs.Called.{Goes, Only};
 ghost use Rattle.shared.specs.Keeps.{IsCalledFor, IsDisk, IsLeftBy};
-ghost use Rattle.shared.specs.Workers.{AllEnded, AllOver, Drained, Ends, IsEnd, IsEndOf, IsOver, IsWorkerOf, company_of, pushed_by, seat_of};
+ghost use Rattle.shared.specs.Workers.{AllEnded, AllOver, Drained, IsEnd, IsWorkerOf, company_of, pushed_by, seat_of};
 
 use crate::brief::BriefLock;
 use crate::cache::SharedCache;
 use crate::disk::Disk;
-use crate::ends::end;
+use crate::ends::finish;
 use crate::jobs::take;
 use crate::worker::Worker;
 use blockdev::BlockDevice;
 use cachecore::CacheCore;
-use deeds::sides::Errand;
 use held::log::Seat;
 use held::naming::Naming;
 use held::state::Held;
@@ -123,24 +120,4 @@ fn drain<B: Naming, D: BlockDevice, T: Trail, R: Wait>(
         finish(disk, state, &mut own.seat, job);
     }
     unreachable!()
-}
-
-/// Makes a job's device call, and ends its request. The receipt of a write that failed goes: no handle is left to be told.
-#[tactic(auto, using(crate::proofs::Ending::ends_by))]
-fn finish<B: Naming, D: BlockDevice, T: Trail>(
-    disk: &mut Disk<B, D>,
-    state: &mut Held<B, T>,
-    seat: &mut Seat,
-    job: Errand<B>,
-)
-    requires seat { seat.old.table ≡ B.table }
-    requires fits { IsJobFor B.name B.sizes.blocks B.sizes.page job }
-    ensures goes { Goes seat.old seat.new }
-    ensures only { Only (λ e. IsEndOf job e.event) seat.old seat.new }
-    ensures ended { (slip : Slip) × (told : Bool) × Ends job seat.old seat.new slip told }
-    ensures over { IsOver state.new.core.state job }
-    ensures others { (other : Task) → IsOver state.old.core.state other → IsOver state.new.core.state other }
-{
-    let report = disk.carry_out(job);
-    let _ = end(state, seat, report);
 }

@@ -1,6 +1,6 @@
-//! A job's device call, and the end of its request: a caller's own, and a worker's.
+//! A job's device call, and the end of its request: a caller's own, a worker's, and as the cache is closed.
 
-ghost use Rattle.std.specs.Prelude.{◌≡◌, IfErr, IfSome, Some, false, is_some, length, option_map};
+ghost use Rattle.std.specs.Prelude.{◌≡◌, Bool, IfErr, IfSome, Some, false, is_some, length, option_map};
 ghost use Rattle.atomic_table.specs.Seated.{TableId};
 ghost use Rattle.blockdev.specs.Jobs.{IsJobFor, Task};
 ghost use Rattle.cachecore.specs.Replies.{buffer_of, end_of};
@@ -8,6 +8,7 @@ ghost use Rattle.machine.specs.declared.event.Event.TheVariants as event;
 ghost use Rattle.machine.specs.declared.event.Reply.{Reply};
 ghost use Rattle.pc_types.specs.declared.kind.Kind.TheVariants.{Fill, Flush};
 ghost use Rattle.held.specs.Called.{Goes, Only};
+ghost use Rattle.held.specs.declared.log.Slip.{Slip};
 ghost use Rattle.shared.specs.Called.{Makes};
 ghost use Rattle.shared.specs.Denials.{IsDenied, MadeOne};
 ghost use Rattle.shared.specs.Own.{IsHelp};
@@ -84,6 +85,23 @@ impl<B: Naming, D: BlockDevice, T: Trail> SharedCache<B, D, T> {
         self.has_ended(rt);
         written(ended)
     }
+
+    /// Makes a job's device call, ends its request, and wakes those who wait for an end.
+    pub(crate) fn end_job<R: Wait>(&self, rt: &R, seat: &mut Seat, job: Errand<B>) -> Done
+        requires seat { seat.old.table ≡ B.table }
+        requires fits { IsJobFor B.name B.sizes.blocks B.sizes.page job }
+        ensures goes { Goes seat.old seat.new }
+        ensures only { Only (λ e. IsEndOf job e.event) seat.old seat.new }
+        ensures ends { Only (λ e. IsEnded B.name (job.kind, job.serial) e.event) seat.old seat.new }
+        ensures ended { (result.serial.0 ≡ job.serial) × Ends job seat.old seat.new result.slip (is_some result.failed) }
+        ensures one { MadeOne (Some result.slip) seat.old seat.new }
+        ensures failed { IfSome result.failed (IsOwnFailure self.now.name B.board) }
+        ensures file { IfSome result.failed (λ w. IsOfRequest B.files B.sizes B.name result.serial.0 seat.new result.slip w.receipt) }
+    {
+        let done = carry_through(rt, &self.disk, &self.state, self.name, seat, job);
+        self.has_ended(rt);
+        done
+    }
 }
 
 /// Whether the write of a flush that ended so did not fail, and its buffer.
@@ -151,9 +169,29 @@ fn failure(name: u64, receipt: Option<Receipt>) -> Option<FailedWrite>
     }
 }
 
+/// Makes a job's device call, and ends its request. The receipt of a write that failed goes: no handle is left to be told.
+#[tactic(auto, using(crate::proofs::Ending::ends_by))]
+pub(crate) fn finish<B: Naming, D: BlockDevice, T: Trail>(
+    disk: &mut Disk<B, D>,
+    state: &mut Held<B, T>,
+    seat: &mut Seat,
+    job: Errand<B>,
+)
+    requires seat { seat.old.table ≡ B.table }
+    requires fits { IsJobFor B.name B.sizes.blocks B.sizes.page job }
+    ensures goes { Goes seat.old seat.new }
+    ensures only { Only (λ e. IsEndOf job e.event) seat.old seat.new }
+    ensures ended { (slip : Slip) × (told : Bool) × Ends job seat.old seat.new slip told }
+    ensures over { IsOver state.new.core.state job }
+    ensures others { (other : Task) → IsOver state.old.core.state other → IsOver state.new.core.state other }
+{
+    let report = disk.carry_out(job);
+    let _ = end(state, seat, report);
+}
+
 /// Ends a request.
 #[tactic(auto, using(held::proofs::Seats::goes_by, crate::proofs::Making::makes_by, crate::proofs::Making::made_one, crate::proofs::Owning::only_end))]
-pub(crate) fn end<B: Naming, T: Trail>(
+fn end<B: Naming, T: Trail>(
     state: &mut Held<B, T>,
     seat: &mut Seat,
     report: Report<B>,

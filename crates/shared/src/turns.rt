@@ -7,12 +7,12 @@ ghost use Rattle.crossbeam_queue.specs.Passes.{view};
 ghost use Rattle.held.specs.Called.{Goes, Only};
 ghost use Rattle.ring.specs.Order.{Stands};
 ghost use Rattle.shared.specs.Denials.{IsDenied, MadeOne};
-ghost use Rattle.shared.specs.Settled.{EndsOwn, IsBegun, IsEnded};
+ghost use Rattle.shared.specs.Settled.{EndsOwn, IsBegun};
 ghost use Rattle.shared.specs.Turns.{EntersBy, WasFull};
-ghost use Rattle.shared.specs.Workers.{AllCarried, Begins, Ends, FailsOf, FailsOwn, FindsNothing, IsEnd, IsEndOf, IsFlushBegin, IsFlushed, IsOfRequest, IsOwnFailure, IsWorkerOf, IsWriteBack, OnBegun, RefusesFirst, entered_in, company_of, popped_by, pushed_by, seat_of};
+ghost use Rattle.shared.specs.Workers.{AllCarried, Begins, Ends, FailsOf, FailsOwn, FindsNothing, IsEnd, IsFlushBegin, IsFlushed, IsOfRequest, IsOwnFailure, IsWorkerOf, IsWriteBack, OnBegun, RefusesFirst, entered_in, company_of, popped_by, pushed_by, seat_of};
 
 use crate::cache::SharedCache;
-use crate::ends::{Done, carry_through};
+use crate::ends::Done;
 use crate::jobs::{put, take};
 use crate::worker::Worker;
 use blockdev::{BlockDevice, Buffer, Gate};
@@ -135,22 +135,5 @@ impl<B: Naming, D: BlockDevice, T: Trail> SharedCache<B, D, T> {
             }
             Err(denied) => Err(denied),
         }
-    }
-
-    /// Makes a job's device call, ends its request, and wakes those who wait for an end.
-    pub(crate) fn end_job<R: Wait>(&self, rt: &R, seat: &mut Seat, job: Errand<B>) -> Done
-        requires seat { seat.old.table ≡ B.table }
-        requires fits { IsJobFor B.name B.sizes.blocks B.sizes.page job }
-        ensures goes { Goes seat.old seat.new }
-        ensures only { Only (λ e. IsEndOf job e.event) seat.old seat.new }
-        ensures ends { Only (λ e. IsEnded B.name (job.kind, job.serial) e.event) seat.old seat.new }
-        ensures ended { (result.serial.0 ≡ job.serial) × Ends job seat.old seat.new result.slip (is_some result.failed) }
-        ensures one { MadeOne (Some result.slip) seat.old seat.new }
-        ensures failed { IfSome result.failed (IsOwnFailure self.now.name B.board) }
-        ensures file { IfSome result.failed (λ w. IsOfRequest B.files B.sizes B.name result.serial.0 seat.new result.slip w.receipt) }
-    {
-        let done = carry_through(rt, &self.disk, &self.state, self.name, seat, job);
-        self.has_ended(rt);
-        done
     }
 }

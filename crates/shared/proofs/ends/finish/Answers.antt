@@ -1,4 +1,4 @@
-use Rattle.shared.proofs.close.finish.Goals as goal
+use Rattle.shared.proofs.ends.finish.Goals as goal
 
 pub returns-clause-only : goal.returns-clause-only
 returns-clause-only g c = c.end.ensures.only c.args.job c.carry_out-report.ensures.same.1 c.carry_out-report.ensures.same.0
