@@ -23,6 +23,7 @@ use std::sync::Wait;
 use trail::Trail;
 
 impl<B: ShardNaming, D: BlockDevice, T: Trail, const K: u64> SharedCache<Shard<B, K>, D, T> {
+    #[inline(always)]
     fn pread_in<R: Wait>(
         &self,
         rt: &R,
@@ -39,6 +40,7 @@ impl<B: ShardNaming, D: BlockDevice, T: Trail, const K: u64> SharedCache<Shard<B
         self.pread(rt, own, handle, offset, out)
     }
 
+    #[inline(always)]
     fn read_in<R: Wait>(
         &self,
         rt: &R,
@@ -71,6 +73,7 @@ impl<B: ShardNaming, D: BlockDevice, T: Trail, const K: u64> SharedCache<Shard<B
         self.seek(rt, own, handle, place)
     }
 
+    #[inline(always)]
     fn pwrite_in<R: Wait>(
         &self,
         rt: &R,
@@ -87,6 +90,7 @@ impl<B: ShardNaming, D: BlockDevice, T: Trail, const K: u64> SharedCache<Shard<B
         self.pwrite(rt, own, handle, offset, bytes)
     }
 
+    #[inline(always)]
     fn write_in<R: Wait>(
         &self,
         rt: &R,
@@ -134,6 +138,7 @@ impl<B: ShardNaming, D: BlockDevice, T: Trail, const K: u64> SharedCache<Shard<B
 }
 
 impl<B: ShardNaming, D: BlockDevice, T: Trail, const K: u64> Place<B, D, T, K> {
+    #[inline(always)]
     fn pread<R: Wait>(
         &self,
         rt: &R,
@@ -152,6 +157,7 @@ impl<B: ShardNaming, D: BlockDevice, T: Trail, const K: u64> Place<B, D, T, K> {
         self.cache().pread_in(rt, own, handle, offset, out)
     }
 
+    #[inline(always)]
     fn read<R: Wait>(
         &self,
         rt: &R,
@@ -188,6 +194,7 @@ impl<B: ShardNaming, D: BlockDevice, T: Trail, const K: u64> Place<B, D, T, K> {
         self.cache().seek_in(rt, own, handle, place)
     }
 
+    #[inline(always)]
     fn pwrite<R: Wait>(
         &self,
         rt: &R,
@@ -206,6 +213,7 @@ impl<B: ShardNaming, D: BlockDevice, T: Trail, const K: u64> Place<B, D, T, K> {
         self.cache().pwrite_in(rt, own, handle, offset, bytes)
     }
 
+    #[inline(always)]
     fn write<R: Wait>(
         &self,
         rt: &R,
@@ -267,6 +275,7 @@ impl<
     const K: u64,
     const L: u64,
 > Four<B, D, T, I, J, K, L> {
+    #[inline(always)]
     fn pread<R: Wait>(
         &self,
         rt: &R,
@@ -291,6 +300,7 @@ impl<
         )
     }
 
+    #[inline(always)]
     fn read<R: Wait>(
         &self,
         rt: &R,
@@ -329,6 +339,7 @@ impl<
         at_quarter!(self, shard, [J, K, L], seek(rt, shard, own, handle, place))
     }
 
+    #[inline(always)]
     fn pwrite<R: Wait>(
         &self,
         rt: &R,
@@ -353,6 +364,7 @@ impl<
         )
     }
 
+    #[inline(always)]
     fn write<R: Wait>(
         &self,
         rt: &R,
@@ -414,6 +426,7 @@ impl<
 }
 
 impl<B: ShardNaming, D: BlockDevice, T: Trail> Sixteen<B, D, T> {
+    #[inline(always)]
     fn pread<R: Wait>(
         &self,
         rt: &R,
@@ -437,6 +450,7 @@ impl<B: ShardNaming, D: BlockDevice, T: Trail> Sixteen<B, D, T> {
         )
     }
 
+    #[inline(always)]
     fn read<R: Wait>(
         &self,
         rt: &R,
@@ -473,6 +487,7 @@ impl<B: ShardNaming, D: BlockDevice, T: Trail> Sixteen<B, D, T> {
         at_quarter!(self, shard, [4, 8, 12], seek(rt, shard, own, handle, place))
     }
 
+    #[inline(always)]
     fn pwrite<R: Wait>(
         &self,
         rt: &R,
@@ -496,6 +511,7 @@ impl<B: ShardNaming, D: BlockDevice, T: Trail> Sixteen<B, D, T> {
         )
     }
 
+    #[inline(always)]
     fn write<R: Wait>(
         &self,
         rt: &R,
