@@ -1,7 +1,7 @@
 -- The entries of an array move under wider keys, one after another.
 use Rattle.std.proofs.Common.{◌≡◌, ℕ, ◌+◌, ◌-◌, ◌*◌, ◌/◌, ◌%◌, ◌^◌, ◌<◌, ◌≤◌, ◌&&◌, Bool, true, false, cond, eqb, List, [], ◌∷◌, Option, Some, None, filter, map as map_list, refl, sym, ap, subst, ◌∙◌, arith, le-leb, lt-ltb}
 use Rattle.std.specs.Option.{option_or}
-use Rattle.std.specs.Ordering.{nat_cmp, eq_by_cmp}
+use Rattle.std.specs.Ordering.{eq_by_cmp}
 use Rattle.std.specs.FinMap as map
 use Rattle.std.proofs.lemmas.Bool.{and_from, and_parts, cond-true, eqb-true}
 use Rattle.std.proofs.lemmas.Nat.{mul-add-lt, pow_pos}
@@ -10,7 +10,6 @@ use Rattle.xarray.specs.MarkedArray.{Range, Ranges, entries_in, found_of, is_any
 use Rattle.xarray.specs.declared.entry.Found.{Found}
 use Rattle.xarray.proofs.EntryLemmas.{Rises, entries-rise, look, look_here, look_later}
 use Rattle.xarray.proofs.Singles as singles
-use Rattle.blockmap.specs.Blocks.{Spots}
 use Rattle.blockmap.specs.Keys.{AreSpots, key_of, place_of, spot_of, spots}
 use Rattle.blockmap.proofs.PlaceLemmas.{file_below, key_back, page_below, place_back, places_antisymmetric, places_total, same_place}
 use Rattle.blockmap.proofs.SpotLemmas.{HasEntry, are-empty, are-insert, get-spots, listed, spot_in, spots-empty, spots-insert}
@@ -40,8 +39,9 @@ module _ (bits : ℕ) (m : Ranges) (are : AreSpots bits m) where
   stand_by : (es : List (ℕ × Range)) → Rises es → ((q : ℕ) (y : Range) → look q es ≡ Some y → look q (map.entries m) ≡ Some y) → Stand m (map_list found_of es)
   stand_by [] r sub = tt
   stand_by (e ∷ es) r sub = (
-      record { range = e.1; there = map.get-entries m e.0 ∙ sub e.0 e.1 (look_here e.0 e es refl); value = refl },
-      stand_by es r.1 (λ q y is. sub q y (look_later e es r.0 q y is)))
+    record { range = e.1; there = map.get-entries m e.0 ∙ sub e.0 e.1 (look_here e.0 e es refl); value = refl },
+    stand_by es r.1 (λ q y is. sub q y (look_later e es r.0 q y is)),
+  )
 
   -- a walk over all indexes has all entries
   all_by : 2 ^ bits ≤ 2 ^ 36 → (es : List (ℕ × Range)) → Rises es → ((q : ℕ) (y : Range) → look q es ≡ Some y → look q (map.entries m) ≡ Some y) → filter (λ e. is_any e.1 && meets 0 (2 ^ 64 - 1) e) es ≡ es

@@ -1,5 +1,5 @@
 -- Where the pages' blocks are kept: in an array, by the file's number times 2 ^ bits plus the page's.
-use Rattle.std.specs.Prelude.{◌≡◌, ℕ, ◌+◌, ◌*◌, ◌/◌, ◌%◌, ◌^◌, ◌<◌, ◌≤◌, Some, None, is_some, true, map as map_list}
+use Rattle.std.specs.Prelude.{◌≡◌, ℕ, ◌+◌, ◌-◌, ◌*◌, ◌/◌, ◌%◌, ◌^◌, ◌<◌, ◌≤◌, ◌⊎◌, Some, None, is_some, true, map as map_list}
 use Rattle.std.specs.FinMap as map
 use Rattle.pc_types.specs.Spots.{Spot}
 use Rattle.xarray.specs.MarkedArray.{Range, Ranges}
@@ -11,6 +11,11 @@ pub record IsWidth (bits : ℕ) : Type 0 where
   pub least : 12 ≤ bits
   pub most : bits ≤ 36
   pub levels : bits % 6 ≡ 0
+
+-- the least width with room for the page
+pub record IsLeastWidth (bits page : ℕ) : Type 0 where
+  pub room : page < 2 ^ bits
+  pub least : (bits ≡ 12) ⊎ (2 ^ (bits - 6) ≤ page)
 
 abbrev pub key_of : ℕ → ℕ × ℕ → ℕ
 key_of bits place = place.0 * 2 ^ bits + place.1

@@ -1,7 +1,7 @@
 //! The keys of the pages in the array: the file's number times 2^bits plus the page's. The width `bits` is what the pages that
 //! have a block need, and no more, since the array's tree is as high as its greatest key.
-ghost use Rattle.std.specs.Prelude.{◌≡◌, ◌+◌, ◌-◌, ◌*◌, ◌^◌, ◌<◌, ◌≤◌, ◌⊎◌, MatchBool};
-ghost use Rattle.blockmap.specs.Keys.{IsWidth, place_of};
+ghost use Rattle.std.specs.Prelude.{◌≡◌, ◌+◌, ◌*◌, ◌^◌, ◌<◌, ◌≤◌, MatchBool};
+ghost use Rattle.blockmap.specs.Keys.{IsLeastWidth, IsWidth, place_of};
 
 /// The bits of a key by which one level of the array's tree chooses a slot.
 const LEVEL_BITS: u32 = 6;
@@ -26,8 +26,7 @@ impl Width {
     /// The least width that has room for a page.
     pub(crate) fn for_page(page: u64) -> Width
         requires { page < 2 ^ 36 }
-        ensures room { page < 2 ^ result.bits }
-        ensures least { (result.bits ≡ 12) ⊎ (2 ^ (result.bits - 6) ≤ page) }
+        ensures { IsLeastWidth result.bits page }
     {
         let mut bits = LEAST_BITS;
         while page >> bits != 0 {
@@ -37,7 +36,7 @@ impl Width {
     }
 
     /// Whether a page has a key.
-    pub(crate) fn has(self, page: u64) -> bool
+    pub(crate) fn has_key(self, page: u64) -> bool
         ensures { MatchBool result (page < 2 ^ self.bits) (2 ^ self.bits ≤ page) }
     {
         page < self.pages()

@@ -4,7 +4,7 @@
 ghost use Rattle.std.specs.Prelude.{◌≡◌, ◌+◌, ◌*◌, ◌^◌, ◌<◌, ◌≤◌, Some, None, IfOk, IfSome, IfNone, OnOk, OnErr, IsOkUnless, IsSome, option_map};
 ghost use Rattle.pc_types.specs.declared.refusal.Refusal.{Refusal};
 ghost use Rattle.std.specs.FinMap as map;
-ghost use Rattle.blockmap.specs.Keys.{AreSpots, IsFirstFrom, IsPage, IsPageFrom, NoneFrom, spot_of, spots};
+ghost use Rattle.blockmap.specs.Keys.{AreSpots, IsFirstFrom, IsLeastWidth, IsPage, IsPageFrom, NoneFrom, spot_of, spots};
 ghost use Rattle.blockmap.specs.Told.{told};
 
 use crate::keys::Width;
@@ -67,7 +67,7 @@ impl Spots {
         requires { IsPage file page }
         ensures { result ≡ option_map told (map.get self.now (file, page)) }
     {
-        if !self.width.has(page) {
+        if !self.width.has_key(page) {
             return None;
         }
         match self.array.load(self.width.key(file, page)) {
@@ -107,7 +107,7 @@ impl Spots {
         ensures had { result ≡ option_map told (map.get self.old (file, page)) }
         ensures gone { self.new ≡ map.remove self.old (file, page) }
     {
-        if !self.width.has(page) {
+        if !self.width.has_key(page) {
             return None;
         }
         let Some(word) = self.array.erase(self.width.key(file, page)) else {
@@ -125,12 +125,15 @@ impl Spots {
         ensures none { IfNone result (NoneFrom self.now file from) }
     {
         let width = self.width;
-        if !width.has(from) {
+        if !width.has_key(from) {
             return None;
         }
         let last = width.key(file, width.pages() - 1);
         match self.array.find(width.key(file, from), last) {
-            Some(found) => Some((width.place(found.first).1, placed_of(found.value))),
+            Some(found) => {
+                let (_, page) = width.place(found.first);
+                Some((page, placed_of(found.value)))
+            }
             None => None,
         }
     }
@@ -149,21 +152,19 @@ impl Spots {
     }
 }
 
-/// Makes room for a page in the keys. A refusal changes nothing.
-fn make_room(
-    array: &mut XArray,
-    width: &mut Width,
-    page: u64,
-    alloc: Global,
-) -> Result<(), Refusal>
+/// Makes room for a page in the keys: all entries move under wider ones, where it lies past the width.
+fn make_room(array: &mut XArray, width: &mut Width, page: u64, alloc: Global) -> Result<(), Refusal>
     requires are { AreSpots width.old.bits array.old.ranges }
     requires page { page < 2 ^ 36 }
     ensures room { OnOk result (page < 2 ^ width.new.bits) }
+    ensures least { 2 ^ width.old.bits ≤ page → OnOk result (IsLeastWidth width.new.bits page) }
+    ensures kept { page < 2 ^ width.old.bits → (array.new ≡ array.old) × (width.new.bits ≡ width.old.bits) }
     ensures are { AreSpots width.new.bits array.new.ranges }
     ensures same { spots width.new.bits array.new.ranges ≡ spots width.old.bits array.old.ranges }
+    ensures refused { OnErr result ((array.new ≡ array.old) × (width.new.bits ≡ width.old.bits)) }
     ensures memory { IsOkUnless result Refusal.Memory }
 {
-    if width.has(page) {
+    if width.has_key(page) {
         return Ok(());
     }
     let wider = Width::for_page(page);
@@ -174,10 +175,10 @@ fn make_room(
 
 /// A fresh array with the same blocks under keys of a greater width.
 ///
-/// It runs where a page past the width gets a block. The width only grows, and from 12 bits to 36 in steps of six, so it runs
-/// four times at most over the life of a map. It costs one walk over the array and a store for each entry, and the memory of
-/// both arrays until it ends. The steps are of six bits since a level of the array's tree takes so many: a width between two
-/// of them would give a tree of the same height, and one more move.
+/// It runs where a page past the width gets a block. The width only grows, from 12 bits to 36 in steps of six, so it runs four
+/// times at most over the life of a map. It costs a walk over the array and a store of each entry, and both arrays stand until
+/// it ends. A step is six bits since a level of the tree takes as many: with a width between two steps the tree would be as
+/// high as with the greater one.
 fn rekeyed(array: &XArray, from: Width, to: Width, alloc: Global) -> Result<XArray, Refusal>
     requires are { AreSpots from.bits array.now.ranges }
     requires wider { 2 ^ from.bits ≤ 2 ^ to.bits }
@@ -188,7 +189,7 @@ fn rekeyed(array: &XArray, from: Width, to: Width, alloc: Global) -> Result<XArr
     let mut wide = XArray::new(alloc);
     for found in array.entries(0, u64::MAX) {
         let (file, page) = from.place(found.first);
-        let _none = wide.store(to.key(file, page), found.value)?;
+        wide.store(to.key(file, page), found.value)?;
     }
     Ok(wide)
 }
