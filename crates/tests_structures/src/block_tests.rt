@@ -215,33 +215,36 @@ fn the_last_page_of_the_last_file_is_cut(rt: HostRuntime) {
 }
 
 /// A page, and the block that it gets.
-struct Row {
+#[derive(Clone, Copy)]
+struct Given {
     file: u64,
     page: u64,
     block: u32,
 }
 
 /// On both sides of 2^12, 2^18, 2^24 and 2^30, where the keys of all blocks grow wider, and the last page of all.
-const ROWS: [Row; 11] = [
-    row(0, 4_095, 0),
-    row(63, 0, 1),
-    row(1, 4_096, 2),
-    row(63, 262_143, 3),
-    row(0, 262_144, 4),
-    row(0, 16_777_215, 5),
-    row(1, 16_777_216, 6),
-    row(63, 1_073_741_823, 7),
-    row(0, 1_073_741_824, 8),
-    row(63, 68_719_476_735, 9),
-    row(1, 4_095, 10),
-];
+fn rows() -> [Given; 11] {
+    [
+        row(0, 4_095, 0),
+        row(63, 0, 1),
+        row(1, 4_096, 2),
+        row(63, 262_143, 3),
+        row(0, 262_144, 4),
+        row(0, 16_777_215, 5),
+        row(1, 16_777_216, 6),
+        row(63, 1_073_741_823, 7),
+        row(0, 1_073_741_824, 8),
+        row(63, 68_719_476_735, 9),
+        row(1, 4_095, 10),
+    ]
+}
 
-const fn row(file: u64, page: u64, block: u32) -> Row {
-    Row { file, page, block }
+fn row(file: u64, page: u64, block: u32) -> Given {
+    Given { file, page, block }
 }
 
 /// The pages of these rows have their blocks.
-fn tells_rows(rt: &impl Abort, blocks: &BlockMap, rows: &[Row]) {
+fn tells_rows(rt: &impl Abort, blocks: &BlockMap, rows: &[Given]) {
     for row in rows {
         assert!(rt; row.file < 64 && row.page < 1 << 36);
         let fresh = Placed {
@@ -259,7 +262,7 @@ fn tells_rows(rt: &impl Abort, blocks: &BlockMap, rows: &[Row]) {
 }
 
 /// The pages of these rows have no blocks.
-fn tells_none(rt: &impl Abort, blocks: &BlockMap, rows: &[Row]) {
+fn tells_none(rt: &impl Abort, blocks: &BlockMap, rows: &[Given]) {
     for row in rows {
         assert!(rt; row.file < 64 && row.page < 1 << 36);
         tells(rt, blocks, FileId(row.file), PageIndex(row.page), None);
@@ -268,7 +271,7 @@ fn tells_none(rt: &impl Abort, blocks: &BlockMap, rows: &[Row]) {
 
 /// The page of the row at a number gets its block, and the rows before it have theirs. Where memory is refused, as `rt try` can do,
 /// the call has changed nothing, and a second one goes well.
-fn gives_row(rt: &impl Abort, blocks: &mut BlockMap, rows: &[Row], at: usize) {
+fn gives_row(rt: &impl Abort, blocks: &mut BlockMap, rows: &[Given], at: usize) {
     assert!(rt; at < rows.len());
     let (done, rest) = rows.split_at(at);
     let row = &rows[at];
@@ -291,9 +294,10 @@ fn gives_row(rt: &impl Abort, blocks: &mut BlockMap, rows: &[Row], at: usize) {
 #[test]
 fn blocks_stay_while_the_keys_grow_wider(rt: HostRuntime) {
     let mut blocks = BlockMap::new(rt.alloc(), 11);
-    for at in 0..ROWS.len() {
-        gives_row(&rt, &mut blocks, &ROWS, at);
-        let (done, rest) = ROWS.split_at(at + 1);
+    let rows = rows();
+    for at in 0..rows.len() {
+        gives_row(&rt, &mut blocks, &rows, at);
+        let (done, rest) = rows.split_at(at + 1);
         tells_rows(&rt, &blocks, done);
         tells_none(&rt, &blocks, rest);
     }
