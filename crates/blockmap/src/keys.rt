@@ -1,5 +1,5 @@
-//! The keys of the pages in the array: the file's number times 2^bits plus the page's. The width `bits` is what the pages that
-//! have a block need, and no more, since the array's tree is as high as its greatest key.
+//! The keys of the pages in the array: the file's number times 2^bits plus the page's. The array's tree is as high as its
+//! greatest key, so the width `bits` is the least that has room for each page for which a block was ever asked.
 ghost use Rattle.std.specs.Prelude.{◌≡◌, ◌+◌, ◌*◌, ◌^◌, ◌<◌, ◌≤◌, MatchBool};
 ghost use Rattle.blockmap.specs.Keys.{IsLeastWidth, IsWidth, place_of};
 
