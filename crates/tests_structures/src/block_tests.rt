@@ -213,3 +213,131 @@ fn the_last_page_of_the_last_file_is_cut(rt: HostRuntime) {
     blocks.cut_from(FileId(63), last);
     has_free(&rt, &blocks, 1);
 }
+
+/// A page, and the block that it gets.
+#[derive(Clone, Copy)]
+struct Given {
+    file: u64,
+    page: u64,
+    block: u32,
+}
+
+/// On both sides of 2^12, 2^18, 2^24 and 2^30, where the keys of all blocks grow wider, and the last page of all.
+fn rows() -> [Given; 11] {
+    [
+        row(0, 4_095, 0),
+        row(63, 0, 1),
+        row(1, 4_096, 2),
+        row(63, 262_143, 3),
+        row(0, 262_144, 4),
+        row(0, 16_777_215, 5),
+        row(1, 16_777_216, 6),
+        row(63, 1_073_741_823, 7),
+        row(0, 1_073_741_824, 8),
+        row(63, 68_719_476_735, 9),
+        row(1, 4_095, 10),
+    ]
+}
+
+fn row(file: u64, page: u64, block: u32) -> Given {
+    Given { file, page, block }
+}
+
+/// The pages of these rows have their blocks.
+fn tells_rows(rt: &impl Abort, blocks: &BlockMap, rows: &[Given]) {
+    for row in rows {
+        assert!(rt; row.file < 64 && row.page < 1 << 36);
+        let fresh = Placed {
+            block: BlockNo(row.block),
+            valid: 0,
+        };
+        tells(
+            rt,
+            blocks,
+            FileId(row.file),
+            PageIndex(row.page),
+            Some(fresh),
+        );
+    }
+}
+
+/// The pages of these rows have no blocks.
+fn tells_none(rt: &impl Abort, blocks: &BlockMap, rows: &[Given]) {
+    for row in rows {
+        assert!(rt; row.file < 64 && row.page < 1 << 36);
+        tells(rt, blocks, FileId(row.file), PageIndex(row.page), None);
+    }
+}
+
+/// The page of the row at a number gets its block, and the rows before it have theirs. Where memory is refused, as `rt try` can do,
+/// the call has changed nothing, and a second one goes well.
+fn gives_row(rt: &impl Abort, blocks: &mut BlockMap, rows: &[Given], at: usize) {
+    assert!(rt; at < rows.len());
+    let (done, rest) = rows.split_at(at);
+    let row = &rows[at];
+    assert!(rt; row.file < 64 && row.page < 1 << 36);
+    let (file, page) = (FileId(row.file), PageIndex(row.page));
+    let none = blocks.map(file, page).is_none();
+    assert!(rt; none);
+    let free = blocks.free_count();
+    let given = blocks.assign(file, page);
+    if given == Err(Refusal::Memory) {
+        has_free(rt, blocks, free);
+        tells_rows(rt, blocks, done);
+        tells_none(rt, blocks, rest);
+        gives(rt, blocks, file, page, Ok(BlockNo(row.block)));
+        return;
+    }
+    same(rt, given, Ok(BlockNo(row.block)));
+}
+
+#[test]
+fn blocks_stay_while_the_keys_grow_wider(rt: HostRuntime) {
+    let mut blocks = BlockMap::new(rt.alloc(), 11);
+    let rows = rows();
+    for at in 0..rows.len() {
+        gives_row(&rt, &mut blocks, &rows, at);
+        let (done, rest) = rows.split_at(at + 1);
+        tells_rows(&rt, &blocks, done);
+        tells_none(&rt, &blocks, rest);
+    }
+    has_free(&rt, &blocks, 0);
+    has_next(&rt, &blocks, FileId(0), PageIndex(0), Some((4_095, 0)));
+    has_next(
+        &rt,
+        &blocks,
+        FileId(0),
+        PageIndex(4_096),
+        Some((262_144, 4)),
+    );
+    has_next(
+        &rt,
+        &blocks,
+        FileId(1),
+        PageIndex(4_097),
+        Some((16_777_216, 6)),
+    );
+    blocks.cut_from(FileId(0), PageIndex(262_144));
+    has_free(&rt, &blocks, 3);
+    has_next(&rt, &blocks, FileId(0), PageIndex(4_096), None);
+    has_next(&rt, &blocks, FileId(63), PageIndex(1), Some((262_143, 3)));
+}
+
+#[test]
+fn a_page_past_the_keys_has_no_block(rt: HostRuntime) {
+    let mut blocks = BlockMap::new(rt.alloc(), 2);
+    gives(&rt, &mut blocks, FileId(1), PageIndex(0), Ok(BlockNo(0)));
+    // In narrow keys this would be page 0 of the next file.
+    let past = PageIndex(4_096);
+    tells(&rt, &blocks, FileId(0), past, None);
+    has_next(&rt, &blocks, FileId(0), past, None);
+    takes_back(&rt, &mut blocks, FileId(0), past, Err(Refusal::NoEntry));
+    blocks.set_valid(FileId(0), past, 4_096);
+    blocks.cut_from(FileId(0), PageIndex(4_095));
+    has_free(&rt, &blocks, 1);
+    let fresh = Placed {
+        block: BlockNo(0),
+        valid: 0,
+    };
+    tells(&rt, &blocks, FileId(1), PageIndex(0), Some(fresh));
+}
