@@ -8,14 +8,14 @@ use Rattle.blockmap.specs.Blocks.{Spots}
 
 -- how many bits of a key are the page's: whole levels of the array's tree, of six bits each
 pub record IsWidth (bits : ℕ) : Type 0 where
-  pub least : 12 ≤ bits
+  pub least : 18 ≤ bits
   pub most : bits ≤ 36
   pub levels : bits % 6 ≡ 0
 
 -- the least width with room for the page
 pub record IsLeastWidth (bits page : ℕ) : Type 0 where
   pub room : page < 2 ^ bits
-  pub least : (bits ≡ 12) ⊎ (2 ^ (bits - 6) ≤ page)
+  pub least : (bits ≡ 18) ⊎ (2 ^ (bits - 6) ≤ page)
 
 abbrev pub key_of : ℕ → ℕ × ℕ → ℕ
 key_of bits place = place.0 * 2 ^ bits + place.1

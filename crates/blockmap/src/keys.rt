@@ -6,8 +6,9 @@ ghost use Rattle.blockmap.specs.Keys.{IsLeastWidth, IsWidth, place_of};
 /// The bits of a key by which one level of the array's tree chooses a slot.
 const LEVEL_BITS: u32 = 6;
 
-/// The bits of the least width: files of 4,096 pages, and three levels with the file's number.
-const LEAST_BITS: u32 = 2 * LEVEL_BITS;
+/// The bits of the least width: files of 262,144 pages, and four levels with the file's number. A narrower one would spare small files a
+/// level, and cost each file that grows past it a move of all entries.
+const LEAST_BITS: u32 = 3 * LEVEL_BITS;
 
 /// How many bits of a key are the page's.
 #[derive(Clone, Copy)]
@@ -18,7 +19,7 @@ pub(crate) struct Width {
 
 impl Width {
     pub(crate) fn least() -> Width
-        ensures { result.bits ≡ 12 }
+        ensures { result.bits ≡ 18 }
     {
         Width { bits: LEAST_BITS }
     }

@@ -175,7 +175,7 @@ fn make_room(array: &mut XArray, width: &mut Width, page: u64, alloc: Global) ->
 
 /// A fresh array with the same blocks under keys of a greater width.
 ///
-/// It runs where a page past the width gets a block. The width only grows, from 12 bits to 36 in steps of six, so it runs four
+/// It runs where a page past the width gets a block. The width only grows, from 18 bits to 36 in steps of six, so it runs three
 /// times at most over the life of a map. It costs a walk over the array and a store of each entry, and both arrays stand until
 /// it ends. A step is six bits since a level of the tree takes as many: with a width between two steps the tree would be as
 /// high as with the greater one.

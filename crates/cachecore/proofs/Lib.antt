@@ -7,6 +7,7 @@ pub mod CutSteps
 pub mod DirtyPages
 pub mod EndCalls
 pub mod EndKeeps
+pub mod EndNames
 pub mod EndSteps
 pub mod Evictions
 pub mod FileChanges

@@ -5,6 +5,7 @@ use Rattle.std.specs.Prelude.{Result, Ok, Err}
 use Rattle.pc_types.specs.TagBits.{tag_set}
 use Rattle.pc_types.specs.declared.kind.Kind.{Kind}
 use Rattle.pc_types.specs.declared.kind.Kind.TheVariants.{Fill, Flush}
+use Rattle.pc_types.specs.declared.limits.TheConstants.{MAX_FILES}
 use Rattle.pc_types.specs.declared.refusal.Refusal.{Refusal}
 use Rattle.pc_types.specs.declared.refusal.Refusal.TheVariants.{NoSuchFile}
 use Rattle.pc_types.specs.declared.ids.FileId.{FileId}
@@ -189,28 +190,34 @@ end_of f =
 
 abbrev pub fill_ended : Result Ended RefusedEnd → Reply
 fill_ended (Ok (ended.Dropped _)) = reply.Dropped
-fill_ended (Ok (ended.Failed code _)) = reply.Failed code
+fill_ended (Ok (ended.Failed _ code _)) = reply.Failed code
 fill_ended (Ok (ended.Done _)) = reply.Filled
 fill_ended (Err e) = reply.Refused e.refusal
 
 abbrev pub flush_ended : Result Ended RefusedEnd → Reply
 flush_ended (Ok (ended.Dropped _)) = reply.Dropped
-flush_ended (Ok (ended.Failed code _)) = reply.Failed code
+flush_ended (Ok (ended.Failed _ code _)) = reply.Failed code
 flush_ended (Ok (ended.Done _)) = reply.Written
 flush_ended (Err e) = reply.Refused e.refusal
 
 -- the buffer that comes back with the end of a request
 abbrev pub buffer_of : Ended → List ℕ
 buffer_of (ended.Dropped buffer) = buffer
-buffer_of (ended.Failed code buffer) = buffer
+buffer_of (ended.Failed file code buffer) = buffer
 buffer_of (ended.Done buffer) = buffer
 
 -- the buffer comes back, and where the end is refused all that was handed in
 abbrev pub EndGivesBack : FinishedTask → Result Ended RefusedEnd → Type 0
 EndGivesBack f (Ok (ended.Dropped buffer)) = buffer ≡ f.bytes
-EndGivesBack f (Ok (ended.Failed code buffer)) = buffer ≡ f.bytes
+EndGivesBack f (Ok (ended.Failed file code buffer)) = buffer ≡ f.bytes
 EndGivesBack f (Ok (ended.Done buffer)) = buffer ≡ f.bytes
 EndGivesBack f (Err e) = e.finished ≡ f
+
+-- the end of a request of this kind, in flight with this serial, names its file where it failed
+abbrev pub NamesFile : State → Kind → ℕ → Result Ended RefusedEnd → Type 0
+NamesFile s kind t (Ok (ended.Failed file code buffer)) =
+    (x : Request) × (map.get s.requests t ≡ Some x) × (x.kind ≡ kind) × (file.0 ≡ x.file) × (file.0 < MAX_FILES)
+NamesFile s kind t a = Unit {0}
 
 abbrev pub evicted : Option (FileId × PageIndex) → Reply
 evicted (Some e) = reply.Evicted e.0 e.1

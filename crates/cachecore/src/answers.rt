@@ -1,7 +1,7 @@
 //! What the calls of a cache answer.
 
 use blockdev::{Buffer, Finished, Job};
-use pc_types::{ErrCode, PageIndex, Refusal, Tags};
+use pc_types::{ErrCode, FileId, HandleId, PageIndex, Refusal, Tags};
 
 /// How many requests of each kind are in flight, and how many syncs are in progress.
 #[derive(Clone, Copy, PartialEq, Eq, Debug)]
@@ -79,8 +79,8 @@ pub enum SyncStepped {
 pub enum Ended {
     /// Its page was cut off before, and nothing changed.
     Dropped(Buffer),
-    /// Its device call failed. A page to fill is absent again, and one to write is dirty again.
-    Failed(ErrCode, Buffer),
+    /// Its device call failed, on a page of this file. A page to fill is absent again, and one to write is dirty again.
+    Failed(FileId, ErrCode, Buffer),
     /// The page is filled, or written.
     Done(Buffer),
 }
@@ -94,6 +94,16 @@ pub enum TruncateAnswer {
     Wait(PageIndex),
     /// The page that is cut into has to be filled first.
     Miss(PageIndex),
+}
+
+/// The bytes of a handle's file that a call reads or changes, whose pages it needs.
+#[derive(Clone, Copy, PartialEq, Eq, Debug)]
+pub struct Demand {
+    pub handle: HandleId,
+    pub offset: u64,
+    pub count: u64,
+    /// Whether the call makes these pages dirty.
+    pub dirties: bool,
 }
 
 /// Which room a call wants.

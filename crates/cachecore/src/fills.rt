@@ -12,7 +12,7 @@ ghost use Rattle.machine.specs.Step.{Step};
 ghost use Rattle.machine.specs.PageLists.{entered};
 ghost use Rattle.machine.specs.ListChanges.{lists_filling, lists_after};
 ghost use Rattle.cachecore.specs.Nexts.{IsToRead, OnRead, fill_says, is_read, its_spot};
-ghost use Rattle.cachecore.specs.Replies.{EndGivesBack, GivesBack, IsFillJob, OnFillJob, end_of, fill_begun, fill_ended};
+ghost use Rattle.cachecore.specs.Replies.{EndGivesBack, GivesBack, IsFillJob, NamesFile, OnFillJob, end_of, fill_begun, fill_ended};
 
 use crate::answers::{Ended, FillBegun, Refused, RefusedEnd};
 use crate::cache::{CacheCore, page_count};
@@ -143,6 +143,7 @@ impl CacheCore {
         ensures step { Step self.old.state (Event.End Kind.Fill (end_of finished)) (fill_ended result) self.new.state }
         ensures lists { self.new.lists ≡ lists_after self.old.state (Event.End Kind.Fill (end_of finished)) (fill_ended result) self.old.lists }
         ensures back { EndGivesBack finished result }
+        ensures file { NamesFile self.old.state Kind.Fill finished.serial result }
     {
         let Some(request) = self.request_ended(Kind::Fill, &finished) else {
             let refusal = Refusal::Stranger;
@@ -168,8 +169,9 @@ impl CacheCore {
                 Ok(Ended::Done(buffer))
             }
             Err(code) => {
-                self.pages.leave(request.file.0, request.page.0);
-                Ok(Ended::Failed(code, buffer))
+                let file = request.file;
+                self.pages.leave(file.0, request.page.0);
+                Ok(Ended::Failed(file, code, buffer))
             }
         }
     }

@@ -6,8 +6,7 @@ ghost use Rattle.mapping.specs.declared.mapping.TheConstants.{MAX_PAGES};
 ghost use Rattle.pc_types.specs.declared.refusal.Refusal.TheVariants.{Memory};
 ghost use Rattle.machine.specs.declared.event.Reply.TheVariants as reply;
 ghost use Rattle.machine.specs.Step.{Step};
-ghost use Rattle.cachecore.specs.Flushing.{flush_of};
-ghost use Rattle.cachecore.specs.Replies.{EndGivesBack, FlushGivesBack, IsFlushJob, OnFlushJob, end_of, flush_begun, flush_ended};
+ghost use Rattle.cachecore.specs.Replies.{EndGivesBack, FlushGivesBack, IsFlushJob, NamesFile, OnFlushJob, end_of, flush_begun, flush_ended};
 ghost use Rattle.cachecore.specs.Starting.{IsStarted, IsToFlush, MayStart};
 ghost use Rattle.machine.specs.Tests.{is_full};
 
@@ -15,8 +14,7 @@ use crate::answers::{Ended, FlushBegun, Refused, RefusedEnd};
 use crate::cache::CacheCore;
 use blockdev::{Buffer, Finished, FinishedParts, Job};
 use machine::Event;
-use pc_types::limits::MAX_FILES;
-use pc_types::{FileId, Kind, PageIndex, Refusal, Serial};
+use pc_types::{FileId, Kind, PageIndex, Refusal};
 
 impl CacheCore {
     /// Begins to write the file's lowest page that is dirty and has no write in flight. The buffer is for a copy of its
@@ -85,6 +83,7 @@ impl CacheCore {
         ensures step { Step self.old.state (Event.End Kind.Flush (end_of finished)) (flush_ended result) self.new.state }
         ensures lists { self.new.lists ≡ self.old.lists }
         ensures back { EndGivesBack finished result }
+        ensures file { NamesFile self.old.state Kind.Flush finished.serial result }
     {
         let Some(request) = self.request_ended(Kind::Flush, &finished) else {
             let refusal = Refusal::Stranger;
@@ -110,25 +109,12 @@ impl CacheCore {
                 Ok(Ended::Done(buffer))
             }
             Err(code) => {
+                let file = request.file;
                 // DIRTY again, and counted: a sync that ends compares the counts (rules 9 and 14 of docs/DESIGN.md).
-                self.pages
-                    .finish_write(request.file.0, request.page.0, true);
-                self.pages
-                    .note_failure(request.file.0, u64::from(code.code()));
-                Ok(Ended::Failed(code, buffer))
+                self.pages.finish_write(file.0, request.page.0, true);
+                self.pages.note_failure(file.0, u64::from(code.code()));
+                Ok(Ended::Failed(file, code, buffer))
             }
-        }
-    }
-
-    /// The file of the flush in flight with this serial. This is no event.
-    pub fn flush_of(&self, serial: Serial) -> Option<FileId>
-        ensures file { option_map (λ f. f.0) result ≡ flush_of self.now.state serial.0 }
-        ensures within { IfSome result (λ f. f.0 < MAX_FILES) }
-    {
-        let request = self.requests.get(serial)?;
-        match request.kind {
-            Kind::Flush => Some(request.file),
-            Kind::Fill => None,
         }
     }
 }

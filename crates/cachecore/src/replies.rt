@@ -86,7 +86,7 @@ pub fn of_fill_end(answer: &Result<Ended, RefusedEnd>) -> Reply
 {
     match answer {
         Ok(Ended::Dropped(_)) => Reply::Dropped,
-        Ok(Ended::Failed(code, _)) => Reply::Failed(*code),
+        Ok(Ended::Failed(_, code, _)) => Reply::Failed(*code),
         Ok(Ended::Done(_)) => Reply::Filled,
         Err(refused) => Reply::Refused(refused.refusal),
     }
@@ -107,7 +107,7 @@ pub fn of_flush_end(answer: &Result<Ended, RefusedEnd>) -> Reply
 {
     match answer {
         Ok(Ended::Dropped(_)) => Reply::Dropped,
-        Ok(Ended::Failed(code, _)) => Reply::Failed(*code),
+        Ok(Ended::Failed(_, code, _)) => Reply::Failed(*code),
         Ok(Ended::Done(_)) => Reply::Written,
         Err(refused) => Reply::Refused(refused.refusal),
     }

@@ -5,7 +5,7 @@ ghost use Rattle.pc_types.specs.declared.limits.TheConstants.{MAX_FILE_SIZE, MAX
 ghost use Rattle.machine.specs.State.{free_frames, handle_file};
 ghost use Rattle.cachecore.specs.Wants.{IsFirstToWrite, NothingToWrite, holds_cut, in_flight, is_busy, may_touch, wants};
 
-use crate::answers::{InFlight, Want};
+use crate::answers::{Demand, InFlight, Want};
 use crate::cache::{CacheCore, is_too_long};
 use pc_types::limits::MAX_FILE_SIZE;
 use pc_types::{FileId, HandleId};
@@ -18,9 +18,22 @@ struct Touched {
 }
 
 impl CacheCore {
-    /// Which room a call wants that touches these bytes of the handle's file: frames for the pages that are absent, or, if it makes
-    /// its pages dirty, fewer dirty ones. `None` where no call may touch them. It looks each page up twice at most.
-    pub fn wants(&self, handle: HandleId, offset: u64, count: u64, dirties: bool) -> Option<Want>
+    /// Which room a call wants for these bytes: frames for the pages that are absent, or, if it makes its pages dirty, fewer dirty ones.
+    /// `None` where no call may touch them. It looks each page up twice at most.
+    pub fn wants(&self, demand: Demand) -> Option<Want>
+        ensures { result ≡ wants demand.dirties self.now.state demand.handle.0 demand.offset demand.count }
+    {
+        let Demand {
+            handle,
+            offset,
+            count,
+            dirties,
+        } = demand;
+        self.room_for(handle, offset, count, dirties)
+    }
+
+    /// The same, of its parts.
+    fn room_for(&self, handle: HandleId, offset: u64, count: u64, dirties: bool) -> Option<Want>
         ensures { result ≡ wants dirties self.now.state handle.0 offset count }
     {
         let Touched { file, first, end } = self.touched(handle, offset, count)?;

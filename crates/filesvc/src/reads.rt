@@ -14,10 +14,9 @@ ghost use Rattle.filesvc.specs.Made.{IsMadeOf};
 ghost use Rattle.filesvc.specs.Service.{CameFrom, IsRefusal, IsSettledAtOnce, IsSoonOver, IsUntried, Names, Serves, Tells, count_of, files, read_reply};
 
 use crate::handle::Handle;
-use crate::room::Demand;
 use crate::solo::{MAX_ATTEMPTS, Solo};
 use blockdev::BlockDevice;
-use cachecore::ReadAnswer;
+use cachecore::{Demand, ReadAnswer};
 use pc_types::{HandleId, Refusal};
 
 impl<D: BlockDevice> Solo<D> {

@@ -12,18 +12,8 @@ ghost use Rattle.filesvc.specs.Service.{wants};
 use crate::requests::{fill_page, flush_page};
 use crate::solo::Solo;
 use blockdev::BlockDevice;
-use cachecore::{Reply, Want};
+use cachecore::{Demand, Reply, Want};
 use pc_types::{FileId, HandleId, PageIndex, Refusal};
-
-/// The bytes of a handle's file that a call reads or changes, whose pages it needs.
-#[derive(Clone, Copy)]
-pub(crate) struct Demand {
-    pub(crate) handle: HandleId,
-    pub(crate) offset: u64,
-    pub(crate) count: u64,
-    // whether the call makes these pages dirty
-    pub(crate) dirties: bool,
-}
 
 impl<D: BlockDevice> Solo<D> {
     /// Fills a page that a call on these bytes lacks. First room is made for all pages that it lacks: made for this one alone
@@ -79,8 +69,7 @@ impl<D: BlockDevice> Solo<D> {
         ensures wanted { refusal_of result ≡ wants demand.dirties self.now.world.core demand.handle.0 demand.offset demand.count }
         ensures short { IfSome result (IsShort self.now.world.core demand.handle.0 demand.offset demand.count) }
     {
-        self.world
-            .wants(demand.handle, demand.offset, demand.count, demand.dirties)
+        self.world.wants(demand)
     }
 
     /// Makes room for as many frames as a call is short of.

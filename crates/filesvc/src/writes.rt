@@ -13,10 +13,9 @@ ghost use Rattle.filesvc.specs.Rooms.{Stops, need};
 ghost use Rattle.filesvc.specs.Service.{CameFrom, FilesAfter, IsRefusal, IsSettledAtOnce, IsUntried, IsSoonOver, Keeps, LengthsAfter, Names, count_of, cursor_after, truncate_reply, wants, write_event, write_reply, wrote_reply};
 
 use crate::handle::Handle;
-use crate::room::Demand;
 use crate::solo::{MAX_ATTEMPTS, Solo};
 use blockdev::BlockDevice;
-use cachecore::{TruncateAnswer, WriteAnswer};
+use cachecore::{Demand, TruncateAnswer, WriteAnswer};
 use pc_types::{HandleId, Refusal};
 
 /// How a write ended: how many bytes were written, and the offset after them.

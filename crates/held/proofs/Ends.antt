@@ -3,12 +3,11 @@ use Rattle.std.proofs.Common.{◌≡◌, ℕ, cond, Bool, true, false, [], refl,
 use Rattle.std.specs.Prelude.{◌⊎◌, Option, Some, None, Result, Ok, Err, is_err, is_some}
 use Rattle.pc_types.specs.declared.kind.Kind.{Kind}
 use Rattle.pc_types.specs.declared.kind.Kind.TheVariants.{Fill, Flush}
-use Rattle.pc_types.specs.Kinds.{is_flush}
 use Rattle.pc_types.specs.declared.refusal.Refusal.{Refusal}
 use Rattle.pc_types.specs.declared.refusal.Refusal.TheVariants.{Stranger}
 use Rattle.cachecore.specs.Core.{Core}
-use Rattle.cachecore.specs.Flushing.{flush_of, flushed_file}
-use Rattle.cachecore.specs.Replies.{fill_ended, flush_ended}
+use Rattle.cachecore.proofs.EndNames.{flush_named}
+use Rattle.cachecore.specs.Replies.{NamesFile, fill_ended, flush_ended}
 use Rattle.cachecore.specs.declared.answers.Ended.{Ended}
 use Rattle.cachecore.specs.declared.answers.Ended.TheVariants as ended
 use Rattle.cachecore.specs.declared.answers.RefusedEnd.{RefusedEnd}
@@ -33,7 +32,7 @@ use Rattle.trail.specs.declared.entry.Entry.{Entry}
 use Rattle.trail.specs.Entries.{entry_of, entry_with, noted, reply_with, end_with, outcome_with}
 use Rattle.trail.specs.Room.{Room, byte_need, event_need, fits_beside, has_room, less, need_of_end, reserved}
 use Rattle.held.specs.declared.log.Slip.{Slip}
-use Rattle.held.specs.Ends.{IsRecorded, ended_as, is_failed}
+use Rattle.held.specs.Ends.{IsRecorded, ended_as}
 use Rattle.held.specs.Entered.{Entered, Made, Records}
 use Rattle.held.specs.Kept.{IsHeld}
 use Rattle.held.specs.Shown.{HeldSeen, LogSeen, SeatSeen}
@@ -45,10 +44,10 @@ use Rattle.held.proofs.Sizes.{none_in}
 -- one that went through is no refusal
 went_through : (kind : Kind) (b : Ended) (why : Refusal) → ended_as kind (Ok b) ≡ reply.Refused why → ⊥
 went_through Fill (ended.Dropped b) why e = absurd cc
-went_through Fill (ended.Failed c b) why e = absurd cc
+went_through Fill (ended.Failed file c b) why e = absurd cc
 went_through Fill (ended.Done b) why e = absurd cc
 went_through Flush (ended.Dropped b) why e = absurd cc
-went_through Flush (ended.Failed c b) why e = absurd cc
+went_through Flush (ended.Failed file c b) why e = absurd cc
 went_through Flush (ended.Done b) why e = absurd cc
 
 refused_quiet : (kind : Kind) (x : RefusedEnd) → is_quiet (ended_as kind (Err x)) ≡ true
@@ -85,18 +84,6 @@ taken s kind e a new h b is = elim (of_end s kind e (ended_as kind a) new h) [
   | inl x ↦ absurd (went_through kind b Stranger (ap (ended_as kind) (sym is) ∙ x.1))
   | inr x ↦ x.may.fitting
 ]
-
--- a flush that failed has a file
-pub failed_file : (s : State) (e : End) (a : Result Ended RefusedEnd) (new : State)
-    → Step s (event.End Flush e) (flush_ended a) new → is_failed a ≡ true → is_some (flush_of s e.serial.0) ≡ true
-failed_file s e (Ok (ended.Failed code b)) new h f = elim (of_end s Flush e (reply.Failed code) new h) [
-  | inl x ↦ absurd (let k = x.1 in cc)
-  | inr x ↦ ap (λ o. is_some (flushed_file o)) x.may.is
-      ∙ ap (λ k. is_some (cond (is_flush k) (Some x.x.file) None)) x.may.kind_is
-]
-failed_file s e (Ok (ended.Dropped b)) new h f = absurd cc
-failed_file s e (Ok (ended.Done b)) new h f = absurd cc
-failed_file s e (Err x) new h f = absurd cc
 
 -- what an end needs: nothing where its request is in flight, else an entry, and it is refused then
 abbrev pub EndNeeds : ℕ → Result Ended RefusedEnd → Type 0
@@ -189,7 +176,7 @@ written_bare outcome.Written e = refl
 
 bare_reply : (a : Result Ended RefusedEnd) → reply_with (flush_ended a) [] ≡ flush_ended a
 bare_reply (Ok (ended.Dropped b)) = refl
-bare_reply (Ok (ended.Failed code b)) = refl
+bare_reply (Ok (ended.Failed file code b)) = refl
 bare_reply (Ok (ended.Done b)) = refl
 bare_reply (Err e) = refl
 
@@ -197,8 +184,8 @@ flush_event : (e : End) (a : Result Ended RefusedEnd) → ((b : Ended) → a ≡
     → event.End Flush (end_with (end_with e []) []) ≡ noted (event.End Flush e) (flush_ended a)
 flush_event e (Ok (ended.Dropped b)) fit i =
     event.End Flush (record e { outcome = written_bare e.outcome (fit (ended.Dropped b) refl) i })
-flush_event e (Ok (ended.Failed c b)) fit i =
-    event.End Flush (record e { outcome = written_bare e.outcome (fit (ended.Failed c b) refl) i })
+flush_event e (Ok (ended.Failed file c b)) fit i =
+    event.End Flush (record e { outcome = written_bare e.outcome (fit (ended.Failed file c b) refl) i })
 flush_event e (Ok (ended.Done b)) fit i =
     event.End Flush (record e { outcome = written_bare e.outcome (fit (ended.Done b) refl) i })
 flush_event e (Err x) fit i = event.End Flush (record e { outcome = twice e.outcome i })
@@ -227,24 +214,13 @@ module _ (name : ℕ) (table board : TableId) (files : Catalog) (sizes : Sizes) 
 -- ---- what is recorded
 
 pub records : (s : State) (e : End) (a : Result Ended RefusedEnd) (receipt : Option ReceiptSeen)
-    (old new : RecorderSeen) → IsRecorded old (flush_of s e.serial.0) a receipt new
+    (old new : RecorderSeen) → NamesFile s Flush e.serial.0 a → IsRecorded old a receipt new
     → Records s (event.End Flush e) (flush_ended a) old new
-records s e a receipt old new h = go (flush_of s e.serial.0) a receipt refl h
-  where
-    go : (o : Option ℕ) (b : Result Ended RefusedEnd) (k : Option ReceiptSeen) → flush_of s e.serial.0 ≡ o
-        → IsRecorded old o b k new → Records s (event.End Flush e) (flush_ended b) old new
-    go (Some f) (Ok (ended.Failed code b)) (Some x) is h = (f, is, h.0, h.1)
-    go None (Ok (ended.Failed code b)) k is h = absurd h
-    go (Some f) (Ok (ended.Failed code b)) None is h = absurd h
-    go None (Ok (ended.Dropped b)) None is h = h
-    go None (Ok (ended.Dropped b)) (Some k) is h = absurd h
-    go None (Ok (ended.Done b)) None is h = h
-    go None (Ok (ended.Done b)) (Some k) is h = absurd h
-    go None (Err x) None is h = h
-    go None (Err x) (Some k) is h = absurd h
-    go (Some f) (Ok (ended.Dropped b)) None is h = h
-    go (Some f) (Ok (ended.Dropped b)) (Some k) is h = absurd h
-    go (Some f) (Ok (ended.Done b)) None is h = h
-    go (Some f) (Ok (ended.Done b)) (Some k) is h = absurd h
-    go (Some f) (Err x) None is h = h
-    go (Some f) (Err x) (Some k) is h = absurd h
+records s e (Ok (ended.Failed file code b)) (Some x) old new n h = (file.0, flush_named s e.serial.0 file code b n, h.0, h.1)
+records s e (Ok (ended.Failed file code b)) None old new n h = absurd h
+records s e (Ok (ended.Dropped b)) None old new n h = h
+records s e (Ok (ended.Dropped b)) (Some k) old new n h = absurd h
+records s e (Ok (ended.Done b)) None old new n h = h
+records s e (Ok (ended.Done b)) (Some k) old new n h = absurd h
+records s e (Err x) None old new n h = h
+records s e (Err x) (Some k) old new n h = absurd h

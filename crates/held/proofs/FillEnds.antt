@@ -50,8 +50,8 @@ fill_event : (f : FinishedTask) (a : Result Ended RefusedEnd) (read : Bool) → 
 fill_event f (Ok (ended.Dropped b)) read back is fit i = event.End Fill (record (end_of f) {
   outcome = again f.kind f.outcome f.bytes b read back is (fit (ended.Dropped b) refl) i;
 })
-fill_event f (Ok (ended.Failed code b)) read back is fit i = event.End Fill (record (end_of f) {
-  outcome = again f.kind f.outcome f.bytes b read back is (fit (ended.Failed code b) refl) i;
+fill_event f (Ok (ended.Failed file code b)) read back is fit i = event.End Fill (record (end_of f) {
+  outcome = again f.kind f.outcome f.bytes b read back is (fit (ended.Failed file code b) refl) i;
 })
 fill_event f (Ok (ended.Done b)) read back is fit i = event.End Fill (record (end_of f) {
   outcome = again f.kind f.outcome f.bytes b read back is (fit (ended.Done b) refl) i;
@@ -63,7 +63,7 @@ fill_event f (Err x) false back is fit i =
 
 bare_reply : (a : Result Ended RefusedEnd) (b : List ℕ) → reply_with (fill_ended a) b ≡ fill_ended a
 bare_reply (Ok (ended.Dropped x)) b = refl
-bare_reply (Ok (ended.Failed code x)) b = refl
+bare_reply (Ok (ended.Failed file code x)) b = refl
 bare_reply (Ok (ended.Done x)) b = refl
 bare_reply (Err e) b = refl
 
@@ -73,7 +73,7 @@ read_size : (f : FinishedTask) (a : Result Ended RefusedEnd) (read : Bool) (page
     → length f.bytes ≡ page → length (bytes_read_in a read) ≤ page
 read_size f a false page back size = omega arith
 read_size f (Ok (ended.Dropped b)) true page back size = let e : length b ≡ page = ap length back ∙ size in omega arith
-read_size f (Ok (ended.Failed code b)) true page back size = let e : length b ≡ page = ap length back ∙ size in
+read_size f (Ok (ended.Failed file code b)) true page back size = let e : length b ≡ page = ap length back ∙ size in
     omega arith
 read_size f (Ok (ended.Done b)) true page back size = let e : length b ≡ page = ap length back ∙ size in omega arith
 read_size f (Err x) true page back size = omega arith

@@ -133,8 +133,8 @@ fill_bytes : (f : FinishedTask) (a : Result Ended RefusedEnd) (read : Bool) → 
     → bytes_read_in a read ≡ event_bytes (noted (event.End Fill (end_of f)) (fill_ended a))
 fill_bytes f (Ok (ended.Dropped b)) read back is fit =
     outcome_read f.kind f.outcome f.bytes b read back is (fit (ended.Dropped b) refl)
-fill_bytes f (Ok (ended.Failed code b)) read back is fit =
-    outcome_read f.kind f.outcome f.bytes b read back is (fit (ended.Failed code b) refl)
+fill_bytes f (Ok (ended.Failed file code b)) read back is fit =
+    outcome_read f.kind f.outcome f.bytes b read back is (fit (ended.Failed file code b) refl)
 fill_bytes f (Ok (ended.Done b)) read back is fit =
     outcome_read f.kind f.outcome f.bytes b read back is (fit (ended.Done b) refl)
 fill_bytes f (Err x) true back is fit = sym (no_outcome (outcome_of f.kind f.outcome f.bytes))
@@ -142,7 +142,7 @@ fill_bytes f (Err x) false back is fit = sym (no_outcome (outcome_of f.kind f.ou
 
 fill_none : (a : Result Ended RefusedEnd) → reply_bytes (fill_ended a) ≡ []
 fill_none (Ok (ended.Dropped b)) = refl
-fill_none (Ok (ended.Failed code b)) = refl
+fill_none (Ok (ended.Failed file code b)) = refl
 fill_none (Ok (ended.Done b)) = refl
 fill_none (Err x) = refl
 

@@ -99,10 +99,10 @@ NoEnd e = (kind : Kind) (end : End) → e ≢ event.End kind end
 
 made_by : (kind : Kind) (end : End) (b : Ended) → end_made (event.End kind end) (ended_as kind (Ok b)) ≡ Some end
 made_by Fill end (ended.Dropped b) = refl
-made_by Fill end (ended.Failed c b) = refl
+made_by Fill end (ended.Failed file c b) = refl
 made_by Fill end (ended.Done b) = refl
 made_by Flush end (ended.Dropped b) = refl
-made_by Flush end (ended.Failed c b) = refl
+made_by Flush end (ended.Failed file c b) = refl
 made_by Flush end (ended.Done b) = refl
 
 module _ (told : Bool) (files : Catalog) (sizes : Sizes) (name : ℕ) (blocks : List (List ℕ)) (old new : HeldSeen) (places : List Place)

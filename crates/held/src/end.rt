@@ -1,16 +1,15 @@
 //! The ends of requests, as they are entered, and the recording of a write that failed.
 
-ghost use Rattle.std.specs.Prelude.{◌≡◌, ◌<◌, [], true, is_some, IfSome, IsOk, Ok, option_map};
-ghost use Rattle.pc_types.specs.declared.limits.TheConstants.{MAX_FILES};
+ghost use Rattle.std.specs.Prelude.{◌≡◌, [], IsOk, Ok};
 ghost use Rattle.cachecore.specs.Replies.{end_of};
-ghost use Rattle.held.specs.Ends.{IsRecorded, bytes_read_in, is_failed, went_well};
+ghost use Rattle.held.specs.Ends.{IsOnBoard, IsRecorded, bytes_read_in, went_well};
 ghost use Rattle.trail.specs.Entries.{end_with};
 
 use crate::bytes::no_bytes;
 use blockdev::Finished;
 use cachecore::{End as Ending, Ended, Outcome, RefusedEnd};
 use errboard::{Receipt, Recorder};
-use pc_types::{FileId, Kind};
+use pc_types::Kind;
 use std::alloc::Global;
 
 /// The end that a finished job makes, without its bytes.
@@ -31,21 +30,15 @@ pub(crate) fn end_without(finished: &Finished, alloc: Global) -> Ending
     }
 }
 
-/// Records a flush of the file, where it failed.
-pub(crate) fn record(
-    recorder: &mut Recorder,
-    file: Option<FileId>,
-    answer: &Result<Ended, RefusedEnd>,
-) -> Option<Receipt>
-    requires within { IfSome file (λ f. f.0 < MAX_FILES) }
-    requires known { is_failed answer.now ≡ true → is_some file ≡ true }
-    ensures { IsRecorded recorder.old (option_map (λ f. f.0) file) answer.now result recorder.new }
+/// Records a flush, where it failed.
+pub(crate) fn record(recorder: &mut Recorder, answer: &Result<Ended, RefusedEnd>) -> Option<Receipt>
+    requires { IsOnBoard answer.now }
+    ensures { IsRecorded recorder.old answer.now result recorder.new }
 {
-    let Ok(Ended::Failed(code, _)) = answer else {
+    let Ok(Ended::Failed(file, code, _)) = answer else {
         return None;
     };
-    let Some(file) = file else { unreachable!() };
-    Some(recorder.record(file, *code))
+    Some(recorder.record(*file, *code))
 }
 
 /// What an end answers that went through.
@@ -78,7 +71,7 @@ pub(crate) fn bytes_of(answer: &Result<Ended, RefusedEnd>, is_read: bool) -> &[u
     }
     match answer {
         Ok(Ended::Dropped(buffer)) => buffer.as_slice(),
-        Ok(Ended::Failed(_, buffer)) => buffer.as_slice(),
+        Ok(Ended::Failed(_, _, buffer)) => buffer.as_slice(),
         Ok(Ended::Done(buffer)) => buffer.as_slice(),
         Err(_) => &[],
     }

@@ -2,12 +2,11 @@
 
 ghost use Rattle.std.specs.Prelude.{◌≡◌, IfErr, IfOk, IfSome, Ok, length};
 ghost use Rattle.blockdev.specs.Jobs.{IsJobFor};
-ghost use Rattle.cachecore.specs.Flushing.{flush_of};
-ghost use Rattle.cachecore.specs.Replies.{EndGivesBack, FlushGivesBack, GivesBack, IsFillJob, IsFlushJob, OnFillJob, OnFlushJob, end_of, fill_begun, fill_ended, flush_begun, flush_ended};
+ghost use Rattle.cachecore.specs.Replies.{EndGivesBack, FlushGivesBack, GivesBack, IsFillJob, IsFlushJob, NamesFile, OnFillJob, OnFlushJob, end_of, fill_begun, fill_ended, flush_begun, flush_ended};
 ghost use Rattle.machine.specs.declared.event.Event.TheVariants as event;
 ghost use Rattle.pc_types.specs.declared.kind.Kind.TheVariants.{Fill, Flush};
 ghost use Rattle.held.specs.Denials.{IsDenied};
-ghost use Rattle.held.specs.Ends.{IsRecorded, IsRecordedOf, ended_as};
+ghost use Rattle.held.specs.Ends.{HasFailure, IsRecorded, IsRecordedOf, ended_as};
 ghost use Rattle.held.specs.Entered.{Made};
 ghost use Rattle.held.specs.Started.{as_fill, as_flush};
 
@@ -99,7 +98,9 @@ impl<B: Naming, T: Trail> Held<B, T> {
         requires seat { seat.old.table ≡ B.table }
         requires size { report.kind ≡ Fill → length report.bytes ≡ B.sizes.page }
         ensures made { Made (event.End report.kind (end_of report)) (ended_as report.kind (Ok result.0)) self.old self.new seat.old seat.new result.2 }
-        ensures receipt { IsRecordedOf report.kind self.old.errors (flush_of self.old.core.state report.serial) result.0 result.1 self.new.errors }
+        ensures file { NamesFile self.old.core.state report.kind report.serial (Ok result.0) }
+        ensures receipt { IsRecordedOf report.kind self.old.errors result.0 result.1 self.new.errors }
+        ensures failure { HasFailure self.old.core.state result.0 result.1 }
         ensures own { IfSome result.1 (λ receipt. receipt.board ≡ B.board) }
         ensures back { EndGivesBack report (Ok result.0) }
     {
@@ -121,6 +122,7 @@ impl<B: Naming, T: Trail> Held<B, T> {
         requires kind { finished.kind ≡ Fill }
         requires size { length finished.bytes ≡ B.sizes.page }
         ensures made { Made (event.End Fill (end_of finished)) (fill_ended (Ok result.0)) self.old self.new seat.old seat.new result.1 }
+        ensures file { NamesFile self.old.core.state Fill finished.serial (Ok result.0) }
         ensures back { EndGivesBack finished (Ok result.0) }
     {
         let Held {
@@ -151,7 +153,9 @@ impl<B: Naming, T: Trail> Held<B, T> {
         requires deed { deed ≡ finished }
         requires kind { finished.kind ≡ Flush }
         ensures made { Made (event.End Flush (end_of finished)) (flush_ended (Ok result.0)) self.old self.new seat.old seat.new result.2 }
-        ensures receipt { IsRecorded self.old.errors (flush_of self.old.core.state finished.serial) (Ok result.0) result.1 self.new.errors }
+        ensures file { NamesFile self.old.core.state Flush finished.serial (Ok result.0) }
+        ensures receipt { IsRecorded self.old.errors (Ok result.0) result.1 self.new.errors }
+        ensures failure { HasFailure self.old.core.state result.0 result.1 }
         ensures own { IfSome result.1 (λ receipt. receipt.board ≡ B.board) }
         ensures back { EndGivesBack finished (Ok result.0) }
     {
@@ -165,11 +169,10 @@ impl<B: Naming, T: Trail> Held<B, T> {
         } = self;
         desk.take_back(deed);
         let end = end_without(&finished, *alloc);
-        let file = core.flush_of(finished.serial());
         let answer = core.flush_end(finished);
         let reply = of_flush_end(&answer);
         let slip = log.enter(seat, Event::End(Kind::Flush, end), reply, &[]);
-        let receipt = record(recorder, file, &answer);
+        let receipt = record(recorder, &answer);
         (gone_through(answer), receipt, slip)
     }
 }

@@ -212,7 +212,8 @@ module _ (name : ℕ) (old mid new : WorldSeen) (ready : IsReady name old) (t : 
 
 said : (k : Kind) (end : End) (a : EndAnswer) → end_made (event.End k end) (end_says a) ≡ Some end
 said k end answer.Dropped = refl
-said k end (answer.Failed code) = refl
+said k end (answer.FillFailed code) = refl
+said k end (answer.FlushFailed file code) = refl
 said k end answer.Filled = refl
 said k end answer.Written = refl
 

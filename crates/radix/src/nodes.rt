@@ -3,7 +3,7 @@ ghost use Rattle.std.specs.Prelude.{◌≡◌, ◌≢◌, ℕ, ◌+◌, ◌-◌,
 ghost use Rattle.pc_types.specs.declared.refusal.Refusal.{Refusal};
 ghost use Rattle.radix.specs.declared.entry.Entry.{Entry};
 ghost use Rattle.radix.specs.Parts.{Parts, HasNodeRoom};
-ghost use Rattle.radix.specs.Entries.{entry_at, mark_at, node_count, StandsAt, IsBare, IsLeaf, IsRun, IsClear, IsFree, HasNoMark, HasPathRoom, SameEntries, PutsEntry, PutsBit, PutsRun, ClearsRun, IsWalked, HasNoEntry, IsNext, HasNoNext, IsNextHeld, HasNoHeld, IsNextEntry, HasNoNextEntry, IsNextLeaf, HasNoneBeside, IsAlone, IsNextEntryLeaf, HasNoEntryBeside, IsNextAt, IsNextEntryAt, IsSingle, IsMarkedAt, HasNoMarkedAt, HasMarked, HasNoMarked, HasMarkedUnder, HasNoMarkedUnder};
+ghost use Rattle.radix.specs.Entries.{entry_at, mark_at, node_count, StandsAt, IsBare, IsLeaf, IsRun, IsClear, IsFree, HasNoMark, HasPathRoom, SameEntries, PutsEntry, PutsBit, PutsRun, ClearsRun, IsWalked, HasNoEntry, IsNext, HasNoNext, IsNextHeld, HasNoHeld, IsNextEntry, HasNoNextEntry, IsAlone, IsNextEntryLeaf, HasNoEntryBeside, IsNextAt, IsNextEntryAt, IsSingle, IsMarkedAt, HasNoMarkedAt, HasMarked, HasNoMarked, HasMarkedUnder, HasNoMarkedUnder};
 ghost use Rattle.radix.specs.Twigs.{IsTwig, mark_of};
 
 use crate::entry::{Ahead, Cursor, Entry, Near, Onward, Position, Twig, Walk};
@@ -510,20 +510,6 @@ impl Nodes {
             unreachable!()
         };
         next::next_in(&self.slab, head, cursor.key(), index, ENTRY)
-    }
-
-    /// The lowest entry with the mark at an index or later in the node of a cursor.
-    #[inline(always)]
-    pub fn next_set_in(&self, cursor: Cursor, index: u64, mark: usize) -> Option<Near>
-        requires stands { StandsAt self.now cursor 0 (index / 64 ^ 0 / 64) }
-        requires mark { mark < 3 }
-        ensures next { MatchOption result (HasNoneBeside self.now mark index) (λ r. IsNextLeaf self.now mark index r.place r.value) }
-        ensures alone { IfSome result (λ r. r.is_alone ≡ true → IsAlone self.now r.place) }
-    {
-        let Some(head) = self.head else {
-            unreachable!()
-        };
-        next::next_in(&self.slab, head, cursor.key(), index, mark)
     }
 
     /// The lowest entry after a slot of the lowest level, where it is in the slot's node, or in a later one below the node `above`

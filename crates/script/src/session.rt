@@ -12,6 +12,7 @@ use pc_types::{ErrCode, FileId, Geometry, HandleId, PageIndex, Refusal, Serial, 
 use std::alloc::Global;
 use std::marker::Model;
 use textline::Stop;
+use world::answers::{EndAnswer, end_reply};
 use world::{Step, World};
 
 /// A world, the board on which its failed writes are recorded, and the pass of each open handle.
@@ -115,14 +116,11 @@ impl Session {
     fn end(&mut self, serial: Serial) -> Reply
         ensures { Makes self.old (Step.End serial) result self.new }
     {
-        let flushed = self.world.flush_of(serial);
-        let reply = self.world.step(&Step::End(serial));
-        if let Reply::Failed(code) = &reply {
-            if let Some(file) = flushed {
-                self.recorder.record(file, *code);
-            }
+        let answer = self.world.end(serial);
+        if let Ok(EndAnswer::FlushFailed(file, code)) = &answer {
+            self.recorder.record(*file, *code);
         }
-        reply
+        end_reply(&answer)
     }
 
     /// Makes the device call of a request fail.

@@ -1,5 +1,5 @@
 -- What the ends of jobs and the turns of workers say of a seat.
-use Rattle.std.proofs.Common.{◌≡◌, ℕ, zero, suc, [], ◌∷◌, ◌++◌, ap, arith, refl, sym, subst, ◌∙◌}
+use Rattle.std.proofs.Common.{◌≡◌, ℕ, zero, suc, List, [], ◌∷◌, ◌++◌, ap, arith, refl, sym, subst, ◌∙◌}
 use Rattle.std.specs.Prelude.{All, Bool, false, true, IfErr, IfNone, IfSome, Ok, Option, Result, Some, None, is_none, is_some, length, option_map, take}
 use Rattle.std.proofs.lemmas.List.{append_assoc, append-nil, length_push, take-append-le, take_all}
 use Rattle.std.proofs.lemmas.List.Elements.{All-append, All-nil, All-weaker}
@@ -9,8 +9,8 @@ use Rattle.blockdev.specs.Jobs.{FinishedTask, Task}
 use Rattle.crossbeam_queue.specs.Fifo.{Held}
 use Rattle.crossbeam_queue.specs.Passes.{view}
 use Rattle.ring.specs.Order.{Stands}
-use Rattle.cachecore.specs.Flushing.{flush_of}
-use Rattle.cachecore.specs.Replies.{EndGivesBack, IsFlushJob, end_of, fill_ended, flush_ended}
+use Rattle.cachecore.proofs.EndNames.{flush_named}
+use Rattle.cachecore.specs.Replies.{EndGivesBack, IsFlushJob, NamesFile, end_of, fill_ended, flush_ended}
 use Rattle.cachecore.specs.declared.answers.Ended.{Ended}
 use Rattle.cachecore.specs.declared.answers.Ended.TheVariants as ended
 use Rattle.cachecore.specs.declared.answers.FlushBegun.TheVariants as flush
@@ -21,6 +21,8 @@ use Rattle.machine.specs.declared.event.Event.{Event}
 use Rattle.machine.specs.declared.event.Event.TheVariants as event
 use Rattle.machine.specs.declared.event.Reply.{Reply}
 use Rattle.machine.specs.declared.event.Reply.TheVariants as reply
+use Rattle.machine.specs.State.{file_at}
+use Rattle.pc_types.specs.declared.ids.FileId.{FileId}
 use Rattle.pc_types.specs.declared.kind.Kind.{Kind}
 use Rattle.pc_types.specs.declared.kind.Kind.TheVariants.{Fill, Flush}
 use Rattle.pc_types.specs.declared.refusal.Refusal.{Refusal}
@@ -30,7 +32,7 @@ use Rattle.trail.specs.declared.entry.Entry.{Entry}
 use Rattle.trail.specs.Entries.{entry_of}
 use Rattle.trail.specs.History.{After}
 use Rattle.trail.specs.Room.{Room}
-use Rattle.held.specs.Ends.{IsRecorded, IsRecordedOf, ended_as}
+use Rattle.held.specs.Ends.{HasFailure, IsRecorded, IsRecordedOf, ended_as}
 use Rattle.held.specs.Entered.{Made}
 use Rattle.held.specs.declared.log.Slip.{Slip}
 use Rattle.held.specs.Shown.{HeldSeen, SeatSeen}
@@ -83,83 +85,81 @@ made_as kind done a old new before after slip is m =
 
 fill_replies : (a : Ended) → IsEndReply (fill_ended (Ok a))
 fill_replies (ended.Dropped b) = tt
-fill_replies (ended.Failed code b) = tt
+fill_replies (ended.Failed file code b) = tt
 fill_replies (ended.Done b) = tt
 
 flush_replies : (a : Ended) → IsEndReply (flush_ended (Ok a))
 flush_replies (ended.Dropped b) = tt
-flush_replies (ended.Failed code b) = tt
+flush_replies (ended.Failed file code b) = tt
 flush_replies (ended.Done b) = tt
 
 pub replies : (k : Kind) (a : Ended) → IsEndReply (ended_as k (Ok a))
 replies Fill a = fill_replies a
 replies Flush a = flush_replies a
 
-flush_told : (old new : RecorderSeen) (f : Option ℕ) (a : Ended) (receipt : Option ReceiptSeen)
-    → IsRecorded old f (Ok a) receipt new → is_some receipt ≡ fails_write Flush (flush_ended (Ok a))
-flush_told old new (Some f) (ended.Failed code b) (Some receipt) h = refl
-flush_told old new (Some f) (ended.Failed code b) None h = absurd h
-flush_told old new None (ended.Failed code b) receipt h = absurd h
-flush_told old new f (ended.Dropped b) None h = refl
-flush_told old new (Some f) (ended.Dropped b) (Some receipt) h = absurd h
-flush_told old new None (ended.Dropped b) (Some receipt) h = absurd h
-flush_told old new f (ended.Done b) None h = refl
-flush_told old new (Some f) (ended.Done b) (Some receipt) h = absurd h
-flush_told old new None (ended.Done b) (Some receipt) h = absurd h
+flush_told : (old new : RecorderSeen) (a : Ended) (receipt : Option ReceiptSeen)
+    → IsRecorded old (Ok a) receipt new → is_some receipt ≡ fails_write Flush (flush_ended (Ok a))
+flush_told old new (ended.Failed file code b) (Some receipt) h = refl
+flush_told old new (ended.Failed file code b) None h = absurd h
+flush_told old new (ended.Dropped b) None h = refl
+flush_told old new (ended.Dropped b) (Some receipt) h = absurd h
+flush_told old new (ended.Done b) None h = refl
+flush_told old new (ended.Done b) (Some receipt) h = absurd h
 
-pub ends_told : (k : Kind) (old new : RecorderSeen) (f : Option ℕ) (a : Ended) (receipt : Option ReceiptSeen)
-    → IsRecordedOf k old f a receipt new → is_some receipt ≡ fails_write k (ended_as k (Ok a))
-ends_told Fill old new f a receipt h = ap is_some h.0
-ends_told Flush old new f a receipt h = flush_told old new f a receipt h
+pub ends_told : (k : Kind) (old new : RecorderSeen) (a : Ended) (receipt : Option ReceiptSeen)
+    → IsRecordedOf k old a receipt new → is_some receipt ≡ fails_write k (ended_as k (Ok a))
+ends_told Fill old new a receipt h = ap is_some h.0
+ends_told Flush old new a receipt h = flush_told old new a receipt h
 
 -- ---- whose receipt it is
 
-receipt_file : (old new : RecorderSeen) (f : Option ℕ) (a : Ended) (receipt : Option ReceiptSeen)
-    → IsRecorded old f (Ok a) receipt new → IfSome receipt (λ r. f ≡ Some r.file)
-receipt_file old new (Some f) (ended.Failed code b) (Some receipt) h = ap Some (sym h.3)
-receipt_file old new (Some f) (ended.Failed code b) None h = tt
-receipt_file old new None (ended.Failed code b) receipt h = absurd h
-receipt_file old new f (ended.Dropped b) None h = tt
-receipt_file old new (Some f) (ended.Dropped b) (Some receipt) h = absurd h
-receipt_file old new None (ended.Dropped b) (Some receipt) h = absurd h
-receipt_file old new f (ended.Done b) None h = tt
-receipt_file old new (Some f) (ended.Done b) (Some receipt) h = absurd h
-receipt_file old new None (ended.Done b) (Some receipt) h = absurd h
+module _ (files : Catalog) (sizes : Sizes) (name serial : ℕ) (e : Event) (old new : HeldSeen) (before after : SeatSeen) (slip : Slip)
+    (legal : After files sizes name old.log.history old.core.state) where
+  -- of a write that failed: of its file, with its failure as the last
+  of_failure : (file : FileId) (code : ℕ) (b : List ℕ) (receipt : ReceiptSeen) → Made e (reply.Failed code) old new before after slip
+      → receipt.file ≡ file.0 → NamesFile old.core.state Flush serial (Ok (ended.Failed file code b))
+      → HasFailure old.core.state (ended.Failed file code b) (Some receipt) → IsOfRequest files sizes name serial after slip receipt
+  of_failure file code b receipt m at names has = record {
+    state = old.core.state;
+    seen = omega (arith, ap length there, length_push old.log.history entry, m.entered.placed.1);
+    leaves = subst (λ l. After files sizes name l old.core.state) (sym until) legal;
+    file = flush_named old.core.state serial file code b names ∙ ap Some (sym at);
+    earlier = has.0;
+    own = has.1;
+    recorded = has.2;
+    counted = has.3 ∙ ap (λ n. (file_at old.core.state n).failures) (sym at);
+    event = e;
+    entered = subst (λ l. IsPrefix l after.list)
+        (there ∙ ap (λ l. l ++ entry ∷ []) (sym until) ∙ ap (λ x. take slip.place after.list ++ x ∷ []) same) (prefix_self after.list);
+  }
+    where
+      entry : Entry
+      entry = entry_of before.number e (reply.Failed code)
 
-ended_file : (k : Kind) (old new : RecorderSeen) (f : Option ℕ) (a : Ended) (receipt : Option ReceiptSeen)
-    → IsRecordedOf k old f a receipt new → IfSome receipt (λ r. f ≡ Some r.file)
-ended_file Fill old new f a receipt h = subst (λ o. IfSome o (λ (r : ReceiptSeen). f ≡ Some r.file)) (sym h.0) tt
-ended_file Flush old new f a receipt h = receipt_file old new f a receipt h
+      there : after.list ≡ old.log.history ++ entry ∷ []
+      there = m.entered.sees ∙ m.entered.history
 
--- the receipt of an end is of the file of the request that was in flight
-pub of_request : (files : Catalog) (sizes : Sizes) (name serial : ℕ) (k : Kind) (e : Event) (r : Reply) (a : Ended) (receipt : Option ReceiptSeen)
-    (old new : HeldSeen) (before after : SeatSeen) (slip : Slip) → After files sizes name old.log.history old.core.state
-    → Made e r old new before after slip → IsRecordedOf k old.errors (flush_of old.core.state serial) a receipt new.errors
-    → IfSome receipt (IsOfRequest files sizes name serial after slip)
-of_request files sizes name serial k e r a receipt old new before after slip legal m h =
-    go receipt (ended_file k old.errors new.errors (flush_of old.core.state serial) a receipt h)
-  where
-    entry : Entry
-    entry = entry_of before.number e r
+      until : take slip.place after.list ≡ old.log.history
+      until =
+          let at = m.entered.placed.1 in
+          ap (take slip.place) there ∙ take-append-le slip.place old.log.history (entry ∷ []) (omega (arith, at))
+          ∙ take_all slip.place old.log.history (omega (arith, at))
 
-    there : after.list ≡ old.log.history ++ entry ∷ []
-    there = m.entered.sees ∙ m.entered.history
+      same : entry ≡ entry_of after.number e (reply.Failed has.1.code)
+      same = ap (λ n. entry_of n e (reply.Failed code)) (sym m.entered.seat.2)
+          ∙ ap (λ n. entry_of after.number e (reply.Failed n)) (sym has.4)
 
-    until : take slip.place after.list ≡ old.log.history
-    until =
-        let at = m.entered.placed.1 in
-        ap (take slip.place) there ∙ take-append-le slip.place old.log.history (entry ∷ []) (omega (arith, at))
-        ∙ take_all slip.place old.log.history (omega (arith, at))
-
-    go : (o : Option ReceiptSeen) → IfSome o (λ x. flush_of old.core.state serial ≡ Some x.file)
-        → IfSome o (IsOfRequest files sizes name serial after slip)
-    go None x = tt
-    go (Some receipt) x = record {
-      state = old.core.state;
-      seen = omega (arith, ap length there, length_push old.log.history entry, m.entered.placed.1);
-      leaves = subst (λ l. After files sizes name l old.core.state) (sym until) legal;
-      file = x;
-    }
+  -- the receipt of an end is of the request that was in flight
+  pub of_request : (k : Kind) (a : Ended) (receipt : Option ReceiptSeen) → Made e (ended_as k (Ok a)) old new before after slip
+      → IsRecordedOf k old.errors a receipt new.errors → NamesFile old.core.state k serial (Ok a) → HasFailure old.core.state a receipt
+      → IfSome receipt (IsOfRequest files sizes name serial after slip)
+  of_request Fill a receipt m h names has = subst (λ o. IfSome o (IsOfRequest files sizes name serial after slip)) (sym h.0) tt
+  of_request Flush (ended.Failed file code b) (Some receipt) m h names has = of_failure file code b receipt m h.3 names has
+  of_request Flush (ended.Failed file code b) None m h names has = tt
+  of_request Flush (ended.Dropped b) None m h names has = tt
+  of_request Flush (ended.Dropped b) (Some receipt) m h names has = absurd h
+  of_request Flush (ended.Done b) None m h names has = tt
+  of_request Flush (ended.Done b) (Some receipt) m h names has = absurd h
 
 -- so is the failed write that it comes with
 pub failed_of_request : (files : Catalog) (sizes : Sizes) (name called serial given : ℕ) (seat : SeatSeen) (slip : Slip) (receipt : Option ReceiptSeen)
@@ -178,7 +178,7 @@ failed_of_request files sizes name called serial given seat slip receipt failed 
 -- a buffer that comes back is as long as it was
 pub back_sized : (a : Ended) (f : FinishedTask) (n : ℕ) → EndGivesBack f (Ok a) → length f.bytes ≡ n → length (buffer_of a) ≡ n
 back_sized (ended.Dropped buffer) f n back size = ap length back ∙ size
-back_sized (ended.Failed code buffer) f n back size = ap length back ∙ size
+back_sized (ended.Failed file code buffer) f n back size = ap length back ∙ size
 back_sized (ended.Done buffer) f n back size = ap length back ∙ size
 
 pub ends_on : (job : Task) (a b c : SeatSeen) (slip : Slip) (told : Bool) → Goes a b

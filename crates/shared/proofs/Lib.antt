@@ -10,6 +10,7 @@ pub mod Owning
 pub mod Parcels
 pub mod Finding
 pub mod CutRequests
+pub mod Waiting
 pub mod Rooming
 pub mod Answered
 pub mod Letting

@@ -212,10 +212,10 @@ module _ (files : Catalog) (sizes : Sizes) (name : ℕ) (whole : Room) where
   denied_begin h p old new before after d q = denied_by (IsHelp h) (event.FillBegin h p) old new before after d refl (λ why slip q. tt) q
 
   -- a fill whose device call failed
-  pub failed_end : (h : HandleId) (end : End) (code : ℕ) (b : List ℕ) (old new : HeldSeen) (before after : SeatSeen) (slip : Slip)
-      → Made (event.End Fill end) (fill_ended (Ok (ended.Failed code b))) old new before after slip
+  pub failed_end : (h : HandleId) (end : End) (file : FileId) (code : ℕ) (b : List ℕ) (old new : HeldSeen) (before after : SeatSeen) (slip : Slip)
+      → Made (event.End Fill end) (fill_ended (Ok (ended.Failed file code b))) old new before after slip
       → IsDenied files sizes name whole (IsHelp h) before after (record { refusal = Io code; slip = Some slip })
-  failed_end h end code b old new before after slip m =
+  failed_end h end file code b old new before after slip m =
       (event.End Fill end, reply.Failed code, tt, refl, makes_by (event.End Fill end) (reply.Failed code) old new before after slip m)
 
   pub full_for_on : (own : Event → Type 0) (a b c : SeatSeen) (d : Denied) → Goes a b → IsFullFor files sizes name whole own b c d

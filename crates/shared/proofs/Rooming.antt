@@ -199,7 +199,7 @@ lost_unwanted files sizes name after d other wants = absurd cc
 pub failed_by : (end : End) (a : Ended) (old new : HeldSeen) (before after : SeatSeen) (slip : Slip)
     → Made (event.End Flush end) (flush_ended (Ok a)) old new before after slip → is_written a ≡ false
     → FailsToWrite before after
-failed_by end (ended.Failed code b) old new before after slip m is = record {
+failed_by end (ended.Failed file code b) old new before after slip m is = record {
   at = before;
   tried = only_same (λ e. IsRoomTry e.event) before before refl;
   end = end;

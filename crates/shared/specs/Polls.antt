@@ -12,7 +12,7 @@ use Rattle.pc_types.specs.Limits.{Sizes}
 use Rattle.machine.specs.Catalogs.{Catalog}
 use Rattle.trail.specs.History.{After}
 
--- a poll and its answer. What is known then is what was recorded as the poll took effect, and all of that is done. A code
+-- a poll and its answer. What is known then is what was recorded at a moment that no clause dates, and all of that is done. A code
 -- comes only of a recording past those done before, and is the last. It comes always, but for a counter that came round
 pub record Polled (before after : PassSeen) (told : Option ℕ) : Type 0 where
   pub same : (after.board ≡ before.board) × (after.file ≡ before.file) × (after.start ≡ before.start)

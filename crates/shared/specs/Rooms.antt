@@ -36,7 +36,7 @@ IsCrammed why s = (is_busy s ≡ false) × (why ≡ NoFrame → has_idle s ≡ f
 
 -- the write of a flush that ended so did not fail
 abbrev pub is_written : Ended → Bool
-is_written (ended.Failed code b) = false
+is_written (ended.Failed file code b) = false
 is_written a = true
 
 -- to let a page go, or to begin a write

@@ -45,9 +45,10 @@ pub record Syncs (h : HandleId) (first last : PageIndex) (failed : Option ℕ) (
   pub began : Began h first last sync before at
   pub ended : Makes at after slip (event.SyncStep sync) (end_reply failed)
 
--- the seat made the slip's entry, a step that ended a sync with nothing failed
+-- this seat made the slip's entry, a step that ended a sync with nothing failed
 abbrev pub EndsClean : SeatSeen → Slip → Type 0
-EndsClean seat slip = (before : SeatSeen) × (sync : SyncId) × Makes before seat slip (event.SyncStep sync) reply.Clean
+EndsClean seat slip =
+    (before : SeatSeen) × (sync : SyncId) × (before.number ≡ seat.number) × Makes before seat slip (event.SyncStep sync) reply.Clean
 
 -- the end of a write
 abbrev pub IsFlushEnd : Event → Type 0

@@ -13,11 +13,12 @@ use Rattle.crossbeam_queue.specs.Fifo.{Held}
 use Rattle.crossbeam_queue.specs.Passes.{Pass, view}
 use Rattle.deeds.specs.Shown.{ParcelSeen}
 use Rattle.errboard.specs.Shown.{ReceiptSeen}
+use Rattle.errseq.specs.declared.recording.Recording.{Recording}
 use Rattle.machine.specs.declared.event.Event.{Event}
 use Rattle.machine.specs.declared.event.Event.TheVariants as event
 use Rattle.machine.specs.declared.event.Reply.{Reply}
 use Rattle.machine.specs.declared.event.Reply.TheVariants as reply
-use Rattle.machine.specs.State.{State, free_frames}
+use Rattle.machine.specs.State.{State, file_at, free_frames}
 use Rattle.machine.specs.Step.{Step}
 use Rattle.machine.specs.Tests.{has_idle}
 use Rattle.pc_types.specs.Limits.{Sizes}
@@ -32,6 +33,7 @@ use Rattle.ring.specs.declared.log.Log.{Log}
 use Rattle.ring.specs.declared.ring.Ring.{Ring}
 use Rattle.trail.specs.History.{After}
 use Rattle.trail.specs.declared.entry.Entry.{Entry}
+use Rattle.trail.specs.Entries.{entry_of}
 use Rattle.held.specs.declared.log.Slip.{Slip}
 use Rattle.held.specs.Shown.{SeatSeen}
 use Rattle.held.specs.Called.{Only}
@@ -114,12 +116,19 @@ pub record Ends (job : Task) (before after : SeatSeen) (slip : Slip) (told : Boo
 abbrev pub IsOwnFailure : ℕ → TableId → FailedSeen → Type 0
 IsOwnFailure name board w = (w.cache ≡ name) × (w.receipt.board ≡ board)
 
--- the receipt is of the file of the request of this serial, as it was in flight before the slip's entry
+-- the receipt is of the file of the request of this serial, as it was in flight before the slip's entry. It has one recording of each
+-- write of that file that had failed then, and then this one's: that entry has its code
 pub record IsOfRequest (files : Catalog) (sizes : Sizes) (name serial : ℕ) (seat : SeatSeen) (slip : Slip) (receipt : ReceiptSeen) : Type 0 where
   pub state : State
   pub seen : slip.place < length seat.list
   pub leaves : After files sizes name (take slip.place seat.list) state
   pub file : flush_of state serial ≡ Some receipt.file
+  pub earlier : List Recording
+  pub own : Recording
+  pub recorded : receipt.recorded ≡ earlier ++ own ∷ []
+  pub counted : length earlier ≡ (file_at state receipt.file).failures
+  pub event : Event
+  pub entered : IsPrefix (take slip.place seat.list ++ entry_of seat.number event (reply.Failed own.code) ∷ []) seat.list
 
 -- the seat began a write of a page, at the slip's entry, which answered this job. Of the state before that entry the file is
 -- the first that has a page to write, and of the state after it the job is its request's, with the bytes of its page

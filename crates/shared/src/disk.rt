@@ -101,8 +101,8 @@ impl<B: Naming, D: BlockDevice> Disk<B, D> {
     }
 }
 
-/// The slip of an entry of the cache that B names, since which this cache's device was flushed, and well. Only `Disk::flush_after` makes
-/// one (decision 152).
+/// The slip of an entry of the cache that B names: all that this cache's device had been told to write before was flushed since, and
+/// well. Only `Disk::flush_after` makes one (decision 152).
 #[derive(Drop)]
 pub struct Durable<B: Naming, D: BlockDevice> {
     slip: Slip,

@@ -57,7 +57,7 @@ impl<B: Naming, D: BlockDevice, T: Trail> SharedCache<B, D, T> {
         let (ended, _, slip) = self.state.lock(rt).end(seat, report);
         self.has_ended(rt);
         match &ended {
-            Ended::Failed(code, _) => Err(by(Refusal::Io(*code), slip)),
+            Ended::Failed(_, code, _) => Err(by(Refusal::Io(*code), slip)),
             _ => Ok(()),
         }
     }
@@ -110,7 +110,7 @@ fn written(ended: Ended) -> (bool, Buffer)
     ensures back { result.1 ≡ buffer_of ended }
 {
     match ended {
-        Ended::Failed(_, buffer) => (false, buffer),
+        Ended::Failed(_, _, buffer) => (false, buffer),
         Ended::Done(buffer) => (true, buffer),
         Ended::Dropped(buffer) => (true, buffer),
     }

@@ -8,8 +8,8 @@ ghost use Rattle.shared.specs.Rooms.{IsFinal, IsLost};
 ghost use Rattle.shared.specs.Settled.{FillsNoOther, Settles};
 
 use crate::cache::SharedCache;
-use crate::room::Demand;
 use blockdev::{BlockDevice, Buffer};
+use cachecore::Demand;
 use held::denied::{Denied, without_slip};
 use held::log::Seat;
 use held::naming::Naming;

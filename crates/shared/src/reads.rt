@@ -14,9 +14,8 @@ ghost use Rattle.shared.specs.Settled.{FillsMissed, Settles};
 
 use crate::cache::SharedCache;
 use crate::handle::Handle;
-use crate::room::Demand;
 use blockdev::BlockDevice;
-use cachecore::ReadAnswer;
+use cachecore::{Demand, ReadAnswer};
 use held::denied::{Denied, without_slip};
 use held::log::{Seat, Slip};
 use held::naming::Naming;
@@ -144,7 +143,7 @@ impl<B: Naming, D: BlockDevice, T: Trail> SharedCache<B, D, T> {
         let page = match answer {
             ReadAnswer::Bytes(count) => return Ok(Some((count, slip))),
             ReadAnswer::Wait(_) => {
-                self.waits(rt, guard);
+                self.wait_for_end(rt, guard);
                 return Ok(None);
             }
             ReadAnswer::Miss(page) => page,

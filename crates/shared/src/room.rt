@@ -18,7 +18,7 @@ ghost use Rattle.shared.specs.Workers.{FindsEnough, LetsGo};
 
 use crate::cache::SharedCache;
 use blockdev::{BlockDevice, Buffer};
-use cachecore::Want;
+use cachecore::{Demand, Want};
 use held::denied::{Denied, without_slip};
 use held::log::Seat;
 use held::naming::Naming;
@@ -26,16 +26,6 @@ use held::state::Held;
 use pc_types::{HandleId, Refusal};
 use std::sync::{MutexGuard, Wait};
 use trail::Trail;
-
-/// The bytes of a handle's file that a call reads or changes, whose pages it needs.
-#[derive(Clone, Copy)]
-pub(crate) struct Demand {
-    pub(crate) handle: HandleId,
-    pub(crate) offset: u64,
-    pub(crate) count: u64,
-    // whether the call makes these pages dirty
-    pub(crate) dirties: bool,
-}
 
 impl<B: Naming, D: BlockDevice, T: Trail> SharedCache<B, D, T> {
     /// Makes room for a call: until as many frames are free as it lacks pages, and no more pages would be dirty than may be, or none can
@@ -57,10 +47,7 @@ impl<B: Naming, D: BlockDevice, T: Trail> SharedCache<B, D, T> {
     {
         'turns: for _ in rt.forever() {
             let guard = self.state.lock(rt);
-            let Some(want) = guard
-                .core()
-                .wants(demand.handle, demand.offset, demand.count, demand.dirties)
-            else {
+            let Some(want) = guard.core().wants(demand) else {
                 return Ok(());
             };
             match self.make_room(rt, guard, seat, want) {
@@ -193,7 +180,12 @@ impl<B: Naming, D: BlockDevice, T: Trail> SharedCache<B, D, T> {
                 drop(buffer);
                 Ok(is_written || was_busy)
             }
-            Ok(None) => Ok(self.waits(rt, guard)),
+            Ok(None) => {
+                if was_busy {
+                    self.wait_for_end(rt, guard);
+                }
+                Ok(was_busy)
+            }
             Err(denied) => match self.wait_or(rt, guard, denied) {
                 Ok(()) => Ok(true),
                 Err(denied) => Err(denied),

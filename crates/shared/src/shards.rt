@@ -4,13 +4,14 @@
 //! other shard's device. `naming` has what a program names, `parts` what the cache is made of, `cache` the cache, `place` the place of a
 //! shard in it, `seat` and `handle` what a caller has. `files`, `bytes`, `sync`, `errors` and `standing` have the calls of callers, `worker`
 //! and `work` the workers and theirs, and `close` the end. `config` says what a cache may be made of, `rows` deals out the seats, and
-//! `denied` is why a file was not made.
+//! `denied` is why a file was not made, and `durable` what an fsync succeeds with.
 
 mod bytes;
 pub mod cache;
 pub mod close;
 mod config;
 pub mod denied;
+mod durable;
 mod errors;
 mod files;
 pub mod handle;

@@ -16,19 +16,15 @@ use std::sync::{MutexGuard, Wait};
 use trail::Trail;
 
 impl<B: Naming, D: BlockDevice, T: Trail> SharedCache<B, D, T> {
-    /// Waits for the end of a request, where one is in flight, and answers whether one was.
-    pub(crate) fn waits<R: Wait>(&self, rt: &R, guard: MutexGuard<'_, Held<B, T>>) -> bool
-        ensures { result ≡ is_busy (mutex_guard_value guard.entry).core.state }
-    {
-        if !guard.core().is_busy() {
-            return false;
+    /// Waits for the end of a request, where one is in flight.
+    pub(crate) fn waits<R: Wait>(&self, rt: &R, guard: MutexGuard<'_, Held<B, T>>) {
+        if guard.core().is_busy() {
+            self.wait_for_end(rt, guard);
         }
-        self.wait_for_end(rt, guard);
-        true
     }
 
     /// Waits for the end of a request. One is in flight.
-    fn wait_for_end<R: Wait>(&self, rt: &R, guard: MutexGuard<'_, Held<B, T>>)
+    pub(crate) fn wait_for_end<R: Wait>(&self, rt: &R, guard: MutexGuard<'_, Held<B, T>>)
         requires { is_busy (mutex_guard_value guard).core.state ≡ true }
     {
         drop(self.changed.wait(rt, guard));

@@ -21,9 +21,9 @@ ghost use Rattle.shared.specs.declared.writes.Change.TheVariants as change;
 
 use crate::cache::SharedCache;
 use crate::handle::Handle;
-use crate::room::{Demand, wants_room};
+use crate::room::wants_room;
 use blockdev::BlockDevice;
-use cachecore::{TruncateAnswer, WriteAnswer};
+use cachecore::{Demand, TruncateAnswer, WriteAnswer};
 use held::denied::{Denied, without_slip};
 use held::log::{Seat, Slip};
 use held::naming::Naming;
@@ -224,10 +224,10 @@ impl<B: Naming, D: BlockDevice, T: Trail> SharedCache<B, D, T> {
         ensures first { OwnFirst (event_of change handle bytes.now) seat.old seat.new }
     {
         let mut guard = self.state.lock(rt);
-        let demand = demand_of(&guard, handle, change, bytes);
         let (answer, slip) = match change_by(&mut guard, seat, handle, change, bytes) {
             Ok(made) => made,
             Err(denied) => {
+                let demand = demand_of(&guard, handle, change, bytes);
                 return match self.settle(rt, guard, seat, demand, denied) {
                     Ok(()) => Ok(None),
                     Err(denied) => Err(denied),
@@ -237,11 +237,12 @@ impl<B: Naming, D: BlockDevice, T: Trail> SharedCache<B, D, T> {
         let page = match answer {
             WriteAnswer::Wrote { count, end } => return Ok(Some((Wrote { count, end }, slip))),
             WriteAnswer::Wait(_) => {
-                self.waits(rt, guard);
+                self.wait_for_end(rt, guard);
                 return Ok(None);
             }
             WriteAnswer::Miss(page) => page,
         };
+        let demand = demand_of(&guard, handle, change, bytes);
         drop(guard);
         match self.fill(rt, seat, demand, page) {
             Ok(()) => Ok(None),

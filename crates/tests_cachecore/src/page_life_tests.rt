@@ -39,8 +39,6 @@ pub fn flushes(rt: &impl Abort, alloc: Global, core: &mut CacheCore) -> Result<(
         job.bytes(),
         b"\xaa\0\0\0\0\0\0\0\0\0\0\0\0\0\0\0".as_slice(),
     );
-    same(rt, core.flush_of(Serial(0)), Some(FILE));
-    same(rt, core.flush_of(Serial(1)), None);
     let writing = Tags::none().with(Tag::Writeback);
     same(
         rt,

@@ -237,7 +237,7 @@ fn fails_a_flush<B: Naming>(
     let (failed, receipt) = flushes(rt, alloc, held, seat, disk);
     check(
         rt,
-        matches!(failed, Ended::Failed(_, _)) && receipt.is_some(),
+        matches!(failed, Ended::Failed(FileId(0), _, _)) && receipt.is_some(),
     );
     check(rt, board.poll(&mut pass) == Some(ErrCode::IO));
     check(rt, board.poll(&mut pass).is_none());

@@ -6,7 +6,7 @@ ghost use Rattle.shared.specs.ShardWorkers.{AreWorkers};
 
 use crate::caller::Tested;
 use crate::gated_trail::GatedTrail;
-use blockdev::ScriptDevice;
+use blockdev::{BlockDevice, ScriptDevice};
 use shared::shards::close::Closed;
 use shared::shards::naming::ShardNaming;
 use shared::shards::seat::ShardSeat;
@@ -51,20 +51,22 @@ impl<B: ShardNaming> Own<B> {
     }
 }
 
-/// Closes the cache by its callers' seats. Answers whether that went well, and each shard's history is one of plain files.
+/// Closes the cache by its callers' seats. Answers whether that went well, each shard's history is one of plain files, and each device was
+/// flushed as often as these numbers say, where there are any.
 pub(crate) fn ends_well<'a, B: ShardNaming, R: Wait>(
     rt: &R,
     alloc: Global,
     cache: Tested<'a, B>,
     own: Own<B>,
     seats: Vec<ShardSeat>,
+    flushes: &[u64],
 ) -> bool
     requires { All (AreSeated B.names) seats.items }
 {
     let Some(left) = closes(rt, cache, own, seats) else {
         return false;
     };
-    let is_so = are_plain(alloc, &left);
+    let is_so = are_plain(alloc, &left) && (flushes.is_empty() || are_flushed(&left, flushes));
     drop(left);
     is_so
 }
@@ -92,4 +94,10 @@ pub(crate) fn closes<'a, B: ShardNaming, R: Wait>(
 /// Whether each history is one of plain files.
 pub(crate) fn are_plain(alloc: Global, left: &[Left<'_>]) -> bool {
     left.iter().all(|shard| matches!(first_odd(alloc, &shard.trail.trail), Ok(None)))
+}
+
+/// Whether each device was flushed so often.
+fn are_flushed(left: &[Left<'_>], flushes: &[u64]) -> bool {
+    let counts = left.iter().map(|shard| shard.device.flushes());
+    left.len() == flushes.len() && counts.zip(flushes).all(|(count, wanted)| count == *wanted)
 }

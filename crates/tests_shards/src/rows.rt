@@ -50,6 +50,14 @@ impl Row {
         }
     }
 
+    /// How often each shard's device is flushed, where the row says so: by each fsync that succeeds, once.
+    fn flushes(self) -> &'static [u64] {
+        match self {
+            Row::TellsAtASync => &[1, 1, 0],
+            _ => &[],
+        }
+    }
+
     fn callers(self) -> u64
         ensures { result < 64 }
     {
@@ -82,7 +90,7 @@ fn runs<'a, B: ShardNaming + Send + Sync, R: Threads + Wait + Sync>(
         return stands(rt, alloc, cache, own, seats);
     }
     let is_so = plays(rt, &cache, turnstile, &mut own, &mut seats, row);
-    ends_well(rt, alloc, cache, own, seats) && is_so
+    ends_well(rt, alloc, cache, own, seats, row.flushes()) && is_so
 }
 
 /// Runs the row. The seats come back.

@@ -1,4 +1,5 @@
-//! A stop that comes while a flusher begins a write. A trail holds it there, so the order is the same each time.
+//! Rows whose trail stands at the turnstile too, so that the order is the same each time: a stop that comes while a flusher begins a write,
+//! and a call that waits for the end of another caller's write-back.
 
 ghost use Rattle.std.specs.FinMap as map;
 ghost use Rattle.std.specs.Prelude.{◌≡◌, [], IfSome};
@@ -9,11 +10,11 @@ ghost use Rattle.shared.specs.Keeps.{AreBlocksOf, IsDisk};
 ghost use Rattle.shared.specs.Workers.{IsWorkerOf};
 
 use crate::rows::two_of;
-use crate::thread_rows::Turnstile;
-use blockdev::{BlockDevice, OpenGate, ScriptDevice};
+use crate::thread_rows::{Entrance, Turnstile};
+use blockdev::{BlockDevice, GatedDevice, OpenGate, ScriptDevice};
 use held::log::Seat;
 use held::naming::Naming;
-use machine::Event;
+use machine::{Event, Reply};
 use pc_types::{Geometry, Refusal};
 use shared::cache::{Parts, SharedCache};
 use shared::handle::Handle;
@@ -29,7 +30,19 @@ use trail::{Entry, NoTrail, Reserve, Trail};
 /// How often workers are told to stop.
 const STOPS: u32 = 200;
 
-/// A trail at which the begin of a write waits before the turnstile, under the state's lock.
+#[derive(Clone, Copy)]
+enum Row {
+    /// The workers are stopped while the flusher begins a write.
+    Stops,
+    /// Two callers sync one page, and one of them writes it.
+    Waits,
+}
+
+/// A device behind the turnstile.
+type Gated<'a> = GatedDevice<ScriptDevice, Entrance<'a>>;
+
+/// A trail at which the begin of a flusher's write waits before the turnstile, and a call that has to wait for the end of a request opens
+/// it. Both are under the state's lock: the call keeps that till it sleeps, and the end of the request has to take it.
 #[derive(Drop)]
 struct HeldTrail<'a, T: Trail> {
     trail: T,
@@ -61,18 +74,28 @@ impl<'a, T: Trail> Trail for HeldTrail<'a, T> {
         if matches!(entry.event, Event::FlushBegin(_)) {
             self.turnstile.pass();
         }
+        if matches!(entry.reply, Reply::Wait(_)) {
+            self.turnstile.open();
+        }
         self.trail.append(entry, bytes);
     }
 }
 
-/// Makes a cache of the parts, and stops its workers while the flusher begins a write.
+/// Makes a cache of the parts and runs the row over it.
 #[tactic(auto, using(shared::proofs::Seating::fresh_seated))]
-fn stops_over<
+fn runs_over<
     B: Naming + Send + Sync,
     D: BlockDevice + Send,
     T: Trail + Drop + Send,
     R: Threads + Wait + Sync,
->(rt: &R, alloc: Global, parts: Parts<D, T>, mut seats: Vec<Seat>, turnstile: &Turnstile) -> bool
+>(
+    rt: &R,
+    alloc: Global,
+    parts: Parts<D, T>,
+    mut seats: Vec<Seat>,
+    turnstile: &Turnstile,
+    row: Row,
+) -> bool
     requires named { parts.name ≡ B.name }
     requires sized { parts.geometry ≡ B.sizes }
     requires board { parts.board ≡ B.board }
@@ -87,13 +110,33 @@ fn stops_over<
     requires calls { (D.told parts.device).calls ≡ B.calls }
     requires seats { AreFresh B.table B.name seats.items }
 {
-    let (cache, mut own) = SharedCache::<B, D, T>::of(alloc, parts);
-    let Some((caller, seat)) = two_of::<B>(&mut seats) else {
-        return false;
-    };
-    match cache.worker(&mut own, seat) {
-        Ok(flusher) => stops(rt, &cache, turnstile, caller, own, flusher),
-        Err(_) => false,
+    let (cache, own) = SharedCache::<B, D, T>::of(alloc, parts);
+    match two_of::<B>(&mut seats) {
+        Some((first, second)) => runs(rt, &cache, turnstile, own, first, second, row),
+        None => false,
+    }
+}
+
+/// Runs the row by two seats.
+fn runs<B: Naming + Send + Sync, D: BlockDevice + Send, T: Trail + Send, R: Threads + Wait + Sync>(
+    rt: &R,
+    cache: &SharedCache<B, D, T>,
+    turnstile: &Turnstile,
+    mut own: Worker,
+    first: Seat,
+    second: Seat,
+    row: Row,
+) -> bool
+    requires own { IsWorkerOf cache.now.ring B.name B.table B.deeds B.sizes own }
+    requires first { first.table ≡ B.table }
+    requires second { second.table ≡ B.table }
+{
+    match row {
+        Row::Stops => match cache.worker(&mut own, second) {
+            Ok(flusher) => stops(rt, cache, turnstile, first, own, flusher),
+            Err(_) => false,
+        },
+        Row::Waits => waits(rt, cache, turnstile, first, second),
     }
 }
 
@@ -183,19 +226,84 @@ fn stops_and_syncs<B: Naming, D: BlockDevice, T: Trail, R: Wait>(
     is_held && is_open && is_synced
 }
 
-/// One stop, over a cache of its own.
-fn over_a_cache<R: Threads + Wait + Sync>(rt: &R, alloc: Global) -> Result<bool, Refusal> {
+/// Makes a page dirty, and has two callers sync it. No worker is at work, and the first makes no entry by which another is woken but the
+/// end of its write: if that wakes nobody, the second sleeps as long as a test may.
+fn waits<B: Naming + Send + Sync, D: BlockDevice + Send, T: Trail + Send, R: Threads + Wait + Sync>(
+    rt: &R,
+    cache: &SharedCache<B, D, T>,
+    turnstile: &Turnstile,
+    mut first: Seat,
+    second: Seat,
+) -> bool
+    requires first { first.table ≡ B.table }
+    requires second { second.table ≡ B.table }
+{
+    let Some(mine) = dirties_a_page(rt, cache, &mut first) else {
+        return false;
+    };
+    let Ok((other, _)) = cache.open(rt, &mut first, mine.file(), false) else {
+        return false;
+    };
+    turnstile.shut();
+    let (is_written, is_woken) = thread::join(
+        rt,
+        move ||
+            requires { (first.table ≡ B.table) × (mine.pass.board ≡ B.board) }
+        { syncs(rt, cache, first, mine) },
+        move ||
+            requires { (second.table ≡ B.table) × (other.pass.board ≡ B.board) }
+        { waits_and_syncs(rt, cache, turnstile, second, other) },
+    );
+    is_written && is_woken
+}
+
+/// Syncs by a seat and a handle that are given up.
+fn syncs<B: Naming, D: BlockDevice, T: Trail, R: Wait>(
+    rt: &R,
+    cache: &SharedCache<B, D, T>,
+    mut seat: Seat,
+    mut handle: Handle,
+) -> bool
+    requires seat { seat.table ≡ B.table }
+    requires handle { handle.pass.board ≡ B.board }
+{
+    cache.fsync(rt, &mut seat, &mut handle).is_ok()
+}
+
+/// Syncs while the device call that writes the page is held, which goes on once this sync has to wait for it. Answers whether that was so.
+fn waits_and_syncs<B: Naming, D: BlockDevice, T: Trail, R: Wait>(
+    rt: &R,
+    cache: &SharedCache<B, D, T>,
+    turnstile: &Turnstile,
+    seat: Seat,
+    handle: Handle,
+) -> bool
+    requires seat { seat.table ≡ B.table }
+    requires handle { handle.pass.board ≡ B.board }
+{
+    let is_held = turnstile.wait_for_a_call();
+    let is_synced = syncs(rt, cache, seat, handle);
+    is_held && is_synced && turnstile.is_open()
+}
+
+/// Runs a row over a new cache.
+fn over_a_cache<R: Threads + Wait + Sync>(
+    rt: &R,
+    alloc: Global,
+    row: Row,
+) -> Result<bool, Refusal> {
     let geometry = Geometry::new(16, 48, 16, 64)?;
-    let device = ScriptDevice::new(alloc, 16, 64)?;
+    let script = ScriptDevice::new(alloc, 16, 64)?;
     let turnstile = Turnstile::new();
     let turnstile = &turnstile;
+    let device = GatedDevice::new(script, Entrance { turnstile });
     let trail = HeldTrail {
         trail: NoTrail::new(),
         turnstile,
     };
     match Parts::make(rt, alloc, &geometry, 7, device, trail, 2) {
-        Ok((parts, seats)) => Ok(stops_over::<Brand, ScriptDevice, HeldTrail<'_, NoTrail>, R>(
-            rt, alloc, parts, seats, turnstile,
+        Ok((parts, seats)) => Ok(runs_over::<Brand, Gated<'_>, HeldTrail<'_, NoTrail>, R>(
+            rt, alloc, parts, seats, turnstile, row,
         )),
         Err(unmade) => Err(unmade.refusal),
     }
@@ -204,7 +312,13 @@ fn over_a_cache<R: Threads + Wait + Sync>(rt: &R, alloc: Global) -> Result<bool,
 #[test]
 fn a_write_that_begins_as_the_workers_are_stopped_is_ended(rt: HostRuntime) -> Result<(), Fail> {
     for _ in 0..STOPS {
-        assert!(&rt; over_a_cache(&rt, rt.alloc())?);
+        assert!(&rt; over_a_cache(&rt, rt.alloc(), Row::Stops)?);
     }
+    Ok(())
+}
+
+#[test]
+fn a_call_that_waits_for_anothers_write_back_is_woken(rt: HostRuntime) -> Result<(), Fail> {
+    assert!(&rt; over_a_cache(&rt, rt.alloc(), Row::Waits)?);
     Ok(())
 }

@@ -88,6 +88,11 @@ impl Turnstile {
             .is_ok()
     }
 
+    /// Whether it lets every call through, and none gave up.
+    pub(crate) fn is_open(&self) -> bool {
+        self.stage.load(Ordering::SeqCst) == OPEN
+    }
+
     /// Opens once the other threads had the time to come to where they wait.
     pub(crate) fn open_late(&self) -> bool {
         for _ in 0..YIELDS {

@@ -222,7 +222,7 @@ struct Given {
     block: u32,
 }
 
-/// On both sides of 2^12, 2^18, 2^24 and 2^30, where the keys of all blocks grow wider, and the last page of all.
+/// On both sides of 2^18, 2^24 and 2^30, where the keys of all blocks grow wider, of 2^12, and the last page of all.
 fn rows() -> [Given; 11] {
     [
         row(0, 4_095, 0),
@@ -328,12 +328,12 @@ fn a_page_past_the_keys_has_no_block(rt: HostRuntime) {
     let mut blocks = BlockMap::new(rt.alloc(), 2);
     gives(&rt, &mut blocks, FileId(1), PageIndex(0), Ok(BlockNo(0)));
     // In narrow keys this would be page 0 of the next file.
-    let past = PageIndex(4_096);
+    let past = PageIndex(262_144);
     tells(&rt, &blocks, FileId(0), past, None);
     has_next(&rt, &blocks, FileId(0), past, None);
     takes_back(&rt, &mut blocks, FileId(0), past, Err(Refusal::NoEntry));
     blocks.set_valid(FileId(0), past, 4_096);
-    blocks.cut_from(FileId(0), PageIndex(4_095));
+    blocks.cut_from(FileId(0), PageIndex(262_143));
     has_free(&rt, &blocks, 1);
     let fresh = Placed {
         block: BlockNo(0),

@@ -8,6 +8,7 @@ use pc_types::{
 };
 use std::alloc::{AllocError, Global};
 use std::process::Abort;
+use world::answers::EndAnswer;
 use world::{Step, World};
 
 fn bytes(alloc: Global, items: &[u8]) -> Result<Bytes, AllocError> {
@@ -54,6 +55,13 @@ fn boxed(
         return Err(Refusal::BadConfig);
     };
     Ok(Box::new(alloc, world)?)
+}
+
+#[test]
+fn bytes_give_their_vector_back(rt: HostRuntime) -> Result<(), AllocError> {
+    let vec = bytes(rt.alloc(), &[170, 85])?.into_vec();
+    same(&rt, vec.as_slice(), [170, 85].as_slice());
+    Ok(())
 }
 
 #[test]
@@ -146,11 +154,8 @@ fn evicts(world: &mut World<ScriptDevice>, page: u64) -> bool {
 }
 
 // The request ends by a device call that failed with EIO.
-fn ends_failed(world: &mut World<ScriptDevice>, serial: Serial) -> bool {
-    match world.step(&Step::End(serial)) {
-        Reply::Failed(code) => code.code() == 5,
-        _ => false,
-    }
+fn ends_as(world: &mut World<ScriptDevice>, serial: Serial, answer: EndAnswer) -> bool {
+    world.end(serial) == Ok(answer)
 }
 
 // The bytes are written, up to this end.
@@ -267,15 +272,14 @@ fn fail_a_flush(
     writes(rt, alloc, world, 0, &[170], 1)?;
     check(rt, flush_begins(world, Serial(0)));
     refuses(rt, world, &Step::End(serial), Refusal::Stranger);
-    same(rt, world.flush_of(serial), Some(FileId(0)));
     same(
         rt,
         world.fail(serial, ErrCode::IO, FaultEffect::Old),
         Ok(()),
     );
     refuses(rt, world, &Step::Call(serial), Refusal::Stranger);
-    check(rt, ends_failed(world, serial));
-    same(rt, world.flush_of(serial), None);
+    let failed = EndAnswer::FlushFailed(FileId(0), ErrCode::IO);
+    check(rt, ends_as(world, serial, failed));
     check(rt, is_dirty(world));
     check(rt, reads(world, 1, &[170]));
     Ok(())
@@ -451,7 +455,10 @@ fn evict_by_use(
         world.fail(serial, ErrCode::IO, FaultEffect::Old),
         Ok(()),
     );
-    check(rt, ends_failed(world, serial));
+    check(
+        rt,
+        ends_as(world, serial, EndAnswer::FillFailed(ErrCode::IO)),
+    );
     check(
         rt,
         matches!(world.tags(FileId(0), PageIndex(0)), Ok(PageTags::Absent)),
@@ -497,7 +504,8 @@ fn fail_over_a_newer_write(
         world.fail(serial, ErrCode::IO, FaultEffect::New),
         Ok(()),
     );
-    check(rt, ends_failed(world, serial));
+    let failed = EndAnswer::FlushFailed(FileId(0), ErrCode::IO);
+    check(rt, ends_as(world, serial, failed));
     check(rt, is_dirty(world));
     check(rt, reads(world, 1, &[187]));
     let other = world.fail(Serial(9), ErrCode::IO, FaultEffect::Old);

@@ -8,6 +8,7 @@ pub mod DeviceCalls
 pub mod EndsAndCalls
 pub mod FirstWorld
 pub mod CallReplies
+pub mod EndNames
 pub mod EventReplies
 pub mod PlayLemmas
 pub mod DeviceFlush

@@ -85,7 +85,7 @@ same_buffer f end buffer back same = same ∙ go end back
   where
     go : (x : Ended) → EndGivesBack f (Ok x) → buffer_of x ≡ f.bytes
     go (ended.Dropped b) g = g
-    go (ended.Failed code b) g = g
+    go (ended.Failed file code b) g = g
     go (ended.Done b) g = g
 
 -- as long as a page

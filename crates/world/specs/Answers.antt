@@ -1,7 +1,11 @@
 -- What the calls answer that begin a request, or end one, as replies of the machine.
-use Rattle.std.specs.Prelude.{◌≡◌, ℕ, Some, option_map}
+use Rattle.std.specs.Prelude.{◌≡◌, ◌<◌, ℕ, None, Ok, Result, Some, option_map}
 use Rattle.std.specs.FinMap as finmap
+use Rattle.cachecore.specs.Flushing.{flush_of}
 use Rattle.cachecore.specs.Replies.{outcome_of}
+use Rattle.machine.specs.State.{State}
+use Rattle.pc_types.specs.declared.limits.TheConstants.{MAX_FILES}
+use Rattle.pc_types.specs.declared.refusal.Refusal.{Refusal}
 use Rattle.machine.specs.declared.event.Reply.{Reply}
 use Rattle.machine.specs.declared.event.Reply.TheVariants as reply
 use Rattle.world.specs.declared.answers.EndAnswer.{EndAnswer}
@@ -34,9 +38,16 @@ sync_says (sync.Failed code) = reply.Failed code
 
 abbrev pub end_says : EndAnswer → Reply
 end_says end.Dropped = reply.Dropped
-end_says (end.Failed code) = reply.Failed code
+end_says (end.FillFailed code) = reply.Failed code
+end_says (end.FlushFailed file code) = reply.Failed code
 end_says end.Filled = reply.Filled
 end_says end.Written = reply.Written
+
+-- where the request of this serial failed, a flush names its file, and what names none was no flush
+abbrev pub NamesFlush : State → ℕ → Result EndAnswer Refusal → Type 0
+NamesFlush s t (Ok (end.FlushFailed file code)) = (flush_of s t ≡ Some file.0) × (file.0 < MAX_FILES)
+NamesFlush s t (Ok (end.FillFailed code)) = flush_of s t ≡ None
+NamesFlush s t a = Unit {0}
 
 -- of a request that ended: its kind, its block, and what its device call came to
 abbrev pub CameTo : WorldSeen → ℕ → EndTold → Type 0

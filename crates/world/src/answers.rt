@@ -6,7 +6,7 @@ ghost use Rattle.world.specs.Answers.{end_says, fill_says, flush_says, sync_says
 
 use blockdev::Buffer;
 use cachecore::{Kind, Reply};
-use pc_types::{BlockNo, ErrCode, PageIndex, Refusal, Serial};
+use pc_types::{BlockNo, ErrCode, FileId, PageIndex, Refusal, Serial};
 
 /// What the begin of a fill answers.
 #[derive(Clone, Copy, PartialEq, Eq, Debug)]
@@ -50,8 +50,10 @@ pub enum SyncAnswer {
 pub enum EndAnswer {
     /// Its page was cut off before, and nothing changed.
     Dropped,
-    /// Its device call failed. A page to fill is absent again, and one to write is dirty again.
-    Failed(ErrCode),
+    /// Its device call failed. The page to fill is absent again.
+    FillFailed(ErrCode),
+    /// Its device call failed, on a page of this file. The page to write is dirty again.
+    FlushFailed(FileId, ErrCode),
     Filled,
     Written,
 }
@@ -108,7 +110,8 @@ pub fn end_reply(answer: &Result<EndAnswer, Refusal>) -> Reply
 {
     match answer {
         Ok(EndAnswer::Dropped) => Reply::Dropped,
-        Ok(EndAnswer::Failed(code)) => Reply::Failed(*code),
+        Ok(EndAnswer::FillFailed(code)) => Reply::Failed(*code),
+        Ok(EndAnswer::FlushFailed(_, code)) => Reply::Failed(*code),
         Ok(EndAnswer::Filled) => Reply::Filled,
         Ok(EndAnswer::Written) => Reply::Written,
         Err(refusal) => Reply::Refused(*refusal),

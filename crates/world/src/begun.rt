@@ -1,10 +1,9 @@
 //! What the cache's calls come to that begin a request or end one: the job, or the answer and the buffer that comes back.
 
-ghost use Rattle.std.specs.Prelude.{◌≡◌, Ok, Err};
-ghost use Rattle.world.specs.Answers.{end_says};
+ghost use Rattle.std.specs.Prelude.{◌≡◌, Ok};
 ghost use Rattle.world.specs.Begins.{IsFillBegun, IsFlushBegun, IsSyncStepped};
 ghost use Rattle.cachecore.specs.Replies.{buffer_of};
-ghost use Rattle.world.specs.Ends.{ended};
+ghost use Rattle.world.specs.Ends.{end_as};
 
 use crate::answers::{EndAnswer, FillAnswer, FlushAnswer, SyncAnswer};
 use blockdev::{Buffer, Job};
@@ -65,12 +64,15 @@ fn of_stepped(stepped: SyncStepped) -> Begun<SyncAnswer>
 
 /// How a request ended, and its buffer.
 pub fn of_end(kind: Kind, end: Ended) -> (EndAnswer, Buffer)
-    ensures answer { end_says result.0 ≡ ended kind (Ok end) }
+    ensures answer { result.0 ≡ end_as kind end }
     ensures buffer { result.1 ≡ buffer_of end }
 {
     match end {
         Ended::Dropped(buffer) => (EndAnswer::Dropped, buffer),
-        Ended::Failed(code, buffer) => (EndAnswer::Failed(code), buffer),
+        Ended::Failed(file, code, buffer) => match kind {
+            Kind::Fill => (EndAnswer::FillFailed(code), buffer),
+            Kind::Flush => (EndAnswer::FlushFailed(file, code), buffer),
+        },
         Ended::Done(buffer) => match kind {
             Kind::Fill => (EndAnswer::Filled, buffer),
             Kind::Flush => (EndAnswer::Written, buffer),

@@ -5,9 +5,8 @@ mod calls;
 mod events;
 mod files;
 
-ghost use Rattle.std.specs.Prelude.{◌≡◌, ◌<◌, IfErr, IfNone, IfOk, IfSome, IsOkUnless, None, OnErr, length, option_map, true, if◌then◌else◌};
+ghost use Rattle.std.specs.Prelude.{◌≡◌, IfErr, IfNone, IfOk, IfSome, IsOkUnless, None, OnErr, length, true, if◌then◌else◌};
 ghost use Rattle.pc_types.specs.declared.refusal.Refusal.TheVariants.{BadConfig, Memory};
-ghost use Rattle.cachecore.specs.Flushing.{flush_of};
 ghost use Rattle.cachecore.specs.Replies.{TagsAre, answered};
 ghost use Rattle.cachecore.specs.Wants.{IsFirstToWrite, NothingToWrite, holds_cut, wants};
 ghost use Rattle.world.specs.Answers.{fill_says, flush_says, sync_says};
@@ -20,10 +19,9 @@ use crate::begun::{self, Begun};
 use crate::jobs::Jobs;
 use crate::step::Step;
 use blockdev::{BlockDevice, Buffer, Watched};
-use cachecore::{CacheCore, PageTags, ReadAnswer, Reply, Want, replies};
+use cachecore::{CacheCore, Demand, PageTags, ReadAnswer, Reply, Want, replies};
 use catalog::Catalog;
-use pc_types::limits::MAX_FILES;
-use pc_types::{Bytes, FileId, Geometry, HandleId, PageIndex, Refusal, Serial, SyncId};
+use pc_types::{Bytes, FileId, Geometry, HandleId, PageIndex, Refusal, SyncId};
 use std::alloc::{AllocError, Global};
 use std::marker::Model;
 
@@ -138,11 +136,11 @@ impl<D: BlockDevice> World<D> {
         self.core.tags(file, page)
     }
 
-    /// Which room a call wants that touches these bytes, and makes their pages dirty or not. This is no event.
-    pub fn wants(&self, handle: HandleId, offset: u64, count: u64, dirties: bool) -> Option<Want>
-        ensures { result ≡ wants dirties self.now.core handle.0 offset count }
+    /// Which room a call wants for these bytes. This is no event.
+    pub fn wants(&self, demand: Demand) -> Option<Want>
+        ensures { result ≡ wants demand.dirties self.now.core demand.handle.0 demand.offset demand.count }
     {
-        self.core.wants(handle, offset, count, dirties)
+        self.core.wants(demand)
     }
 
     /// The first file that has a page to write. This is no event.
@@ -158,14 +156,6 @@ impl<D: BlockDevice> World<D> {
         ensures { result ≡ holds_cut self.now.core }
     {
         self.core.holds_cut()
-    }
-
-    /// The file of the flush in flight with this serial, which is no event either.
-    pub fn flush_of(&self, serial: Serial) -> Option<FileId>
-        ensures file { option_map (λ f. f.0) result ≡ flush_of self.now.core serial.0 }
-        ensures within { IfSome result (λ f. f.0 < MAX_FILES) }
-    {
-        self.core.flush_of(serial)
     }
 
     // A read into a place of its own.

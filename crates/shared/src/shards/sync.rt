@@ -8,58 +8,20 @@ ghost use Rattle.shared.specs.ShardCalls.{Fsyncs};
 ghost use Rattle.shared.specs.ShardSeats.{AreSeated, OnlyAt, is_of, part};
 
 use crate::cache::SharedCache;
-use crate::disk::Durable;
 use crate::handle::Handle;
 use crate::shards::cache::ShardedCache;
+pub use crate::shards::durable::ShardDurable;
 use crate::shards::handle::ShardHandle;
 use crate::shards::naming::{Shard, ShardNaming};
 use crate::shards::place::{Four, Place, Sixteen, at_quarter};
 use crate::shards::seat::ShardSeat;
 use blockdev::BlockDevice;
 use held::denied::{Denied, without_slip};
-use held::log::{Seat, Slip};
+use held::log::Seat;
 use pc_types::limits::LAST_PAGE;
 use pc_types::{PageIndex, Refusal};
-use std::marker::{Model, PhantomData};
 use std::sync::Wait;
 use trail::Trail;
-
-/// The slip of an entry, since which the device of its shard was flushed, and well. Only an fsync makes one.
-#[derive(Drop)]
-pub struct ShardDurable<B: ShardNaming, D: BlockDevice> {
-    slip: Slip,
-    of: PhantomData<(B, D)>,
-}
-
-impl<B: ShardNaming, D: BlockDevice> Model for ShardDurable<B, D> {
-    ghost use Rattle.std.specs.Prelude.{◌≡◌, ◌<◌, ℕ};
-    ghost use Rattle.held.specs.declared.log.Slip.{Slip};
-
-    ghost Value = { Slip };
-
-    ghost view = { λ d. d.slip };
-
-    ghost invariant = { λ d. (k : ℕ) × (k < B.shards) × (d.slip.name ≡ (B.names k).name) };
-}
-
-impl<B: ShardNaming, D: BlockDevice> ShardDurable<B, D> {
-    fn of<const K: u64>(durable: Durable<Shard<B, K>, D>) -> ShardDurable<B, D>
-        requires { K < B.shards }
-        ensures { result ≡ durable }
-    {
-        ShardDurable {
-            slip: durable.slip(),
-            of: PhantomData,
-        }
-    }
-
-    /// The slip of the entry.
-    pub fn slip(&self) -> Slip
-        ensures { result ≡ self.now }
-    {
-        self.slip
-    }
-}
 
 impl<B: ShardNaming, D: BlockDevice, T: Trail, const K: u64> SharedCache<Shard<B, K>, D, T> {
     fn fsync_range_in<R: Wait>(

@@ -1,11 +1,11 @@
 //! The device calls of requests in flight, and their ends.
 
-ghost use Rattle.std.specs.Prelude.{◌≡◌, ◌≤◌, IfOk, OnOk, length};
+ghost use Rattle.std.specs.Prelude.{◌≡◌, ◌≤◌, IfOk, Ok, OnOk, length};
 ghost use Rattle.machine.specs.declared.event.Event.TheVariants as event;
 ghost use Rattle.machine.specs.Step.{Step as MachineStep};
 ghost use Rattle.machine.specs.declared.event.Reply.TheVariants as reply;
-ghost use Rattle.cachecore.specs.Replies.{EndGivesBack, answered, end_of};
-ghost use Rattle.world.specs.Answers.{CameTo, end_says};
+ghost use Rattle.cachecore.specs.Replies.{EndGivesBack, NamesFile, answered, end_of};
+ghost use Rattle.world.specs.Answers.{CameTo, NamesFlush, end_says};
 ghost use Rattle.world.specs.Ends.{ended};
 ghost use Rattle.world.specs.Flushing.{IsFlushed, IsFlushedOnce};
 ghost use Rattle.world.specs.Stepping.{Fails, Steps};
@@ -40,7 +40,8 @@ impl<D: BlockDevice> World<D> {
 
     /// Ends the request.
     pub fn end(&mut self, serial: Serial) -> Result<EndAnswer, Refusal>
-        ensures { Steps self.old (Step.End serial) (answered end_says result) self.new }
+        ensures ended { Steps self.old (Step.End serial) (answered end_says result) self.new }
+        ensures file { NamesFlush self.old.core serial.0 result }
     {
         match self.end_told(serial) {
             Ok(told) => {
@@ -56,6 +57,7 @@ impl<D: BlockDevice> World<D> {
     pub fn end_told(&mut self, serial: Serial) -> Result<EndTold, Refusal>
         ensures ended { Steps self.old (Step.End serial) (answered (λ e. end_says e.answer) result) self.new }
         ensures told { IfOk result (CameTo self.old serial.0) }
+        ensures file { IfOk result (λ e. NamesFlush self.old.core serial.0 (Ok e.answer)) }
         ensures size { IfOk result (λ e. length e.buffer ≡ self.new.core.sizes.page) }
     {
         match self.jobs.take(serial) {
@@ -141,6 +143,7 @@ fn hand_in(core: &mut CacheCore, kind: Kind, finished: Finished) -> Result<Ended
     requires size { length finished.bytes ≡ core.old.state.sizes.page }
     ensures step { MachineStep core.old.state (event.End kind (end_of finished)) (ended kind result) core.new.state }
     ensures back { EndGivesBack finished result }
+    ensures file { NamesFile core.old.state kind finished.serial result }
 {
     match kind {
         Kind::Fill => core.fill_end(finished),

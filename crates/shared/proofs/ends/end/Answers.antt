@@ -17,7 +17,7 @@ returns-clause-made g c = (
   ended_as c.args.report.kind (Ok c.end-receipt.result.0),
   makes_by _ _ _ _ _ _ _ c.end-receipt.ensures.made,
   replies c.args.report.kind c.end-receipt.result.0,
-  ends_told c.args.report.kind _ _ _ c.end-receipt.result.0 c.end-receipt.result.1 c.end-receipt.ensures.receipt,
+  ends_told c.args.report.kind _ _ c.end-receipt.result.0 c.end-receipt.result.1 c.end-receipt.ensures.receipt,
 )
 
 -- the event is the end of whatever job was finished
@@ -42,5 +42,6 @@ returns-clause-others g c job over =
 -- the receipt is of the request that was in flight
 pub returns-clause-file : goal.returns-clause-file
 returns-clause-file g c =
-    of_request g.B.Naming.files g.B.Naming.sizes g.B.Naming.name c.args.report.serial c.args.report.kind _ _ c.end-receipt.result.0
-    c.end-receipt.result.1 _ _ _ _ _ c.core.ensures.named c.end-receipt.ensures.made c.end-receipt.ensures.receipt
+    of_request g.B.Naming.files g.B.Naming.sizes g.B.Naming.name c.args.report.serial _ _ _ _ _ _ c.core.ensures.named c.args.report.kind
+    c.end-receipt.result.0 c.end-receipt.result.1 c.end-receipt.ensures.made c.end-receipt.ensures.receipt c.end-receipt.ensures.file
+    c.end-receipt.ensures.failure

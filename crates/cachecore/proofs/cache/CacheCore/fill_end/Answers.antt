@@ -1,4 +1,4 @@
-use Rattle.std.proofs.Common.{ap, length, refl, sym, ◌∙◌, ◌≡◌, ℕ}
+use Rattle.std.proofs.Common.{ap, arith, length, refl, sym, ◌∙◌, ◌≡◌, ℕ}
 use Rattle.std.proofs.lemmas.Bool.{or_right}
 use Rattle.std.specs.Prelude.{Option, None, Some, is_some, option_map, unwrap_or}
 use Rattle.std.specs.FinMap as map
@@ -149,3 +149,11 @@ lists_left c =
 
 pub returns-in-Err-clause-lists : goal.returns-in-Err-clause-lists
 returns-in-Err-clause-lists c = lists_left c
+
+pub returns-in-Err-clause-file : goal.returns-in-Err-clause-file
+returns-in-Err-clause-file c =
+    let b = (goal.at.invariant_of-self-in-Err c).In-Some in
+    let x = request_of c.in-Some.request in
+    let found = ap (λ (s : State). map.get s.requests c.args.finished.serial) (sym (state_is c.self.view_is)) ∙ (ends b).found in
+    let filed = c.self.invariant.core.filed c.args.finished.serial x (ends b).found in
+    (x, found, (ends b).kind_is, refl, omega (arith, filed, c.self.invariant.core.few_files))

@@ -1,5 +1,5 @@
 use Rattle.std.specs.FinMap as map
-use Rattle.std.proofs.Common.{arith, ap, subst, sym, ◌∙◌}
+use Rattle.std.proofs.Common.{arith, ap, refl, subst, sym, ◌∙◌}
 use Rattle.std.specs.Prelude.{is_some, IsTrue}
 use Rattle.pc_types.specs.declared.kind.Kind.TheVariants.{Flush}
 use Rattle.blockdev.specs.declared.job.FinishedParts.{FinishedParts}
@@ -9,6 +9,7 @@ use Rattle.writeback.specs.Requests.{request_of}
 use Rattle.blockmap.specs.Blocks.{Blocks, with_valid}
 use Rattle.machine.specs.declared.event.Reply.TheVariants as reply
 use Rattle.machine.specs.declared.event.Reply.{Reply}
+use Rattle.machine.specs.State.{State}
 use Rattle.cachecore.proofs.CoreViews.{state_is}
 use Rattle.cachecore.proofs.EndSteps.{Ends, known, stranger_step}
 use Rattle.cachecore.proofs.Parts.{Parts, parts_of, state_by}
@@ -116,3 +117,11 @@ invariant_of-self-in-Err c = (failed c).cache
 
 pub returns-in-Err-clause-step : goal.returns-in-Err-clause-step
 returns-in-Err-clause-step c = (failed c).step
+
+pub returns-in-Err-clause-file : goal.returns-in-Err-clause-file
+returns-in-Err-clause-file c =
+    let b = (goal.at.invariant_of-self-in-Err c).In-Some in
+    let x = request_of c.in-Some.request in
+    let found = ap (λ (s : State). map.get s.requests c.args.finished.serial) (sym (state_is c.self.view_is)) ∙ (ends b).found in
+    let filed = c.self.invariant.core.filed c.args.finished.serial x (ends b).found in
+    (x, found, (ends b).kind_is, refl, omega (arith, filed, c.self.invariant.core.few_files))

@@ -1,13 +1,14 @@
-use Rattle.std.proofs.Common.{refl, ap, subst, ◌∙◌, inl}
-use Rattle.cachecore.specs.Flushing.{flush_of}
+use Rattle.std.proofs.Common.{refl, subst, inl}
 use Rattle.machine.specs.declared.event.Event.TheVariants as event
 use Rattle.cachecore.specs.Replies.{end_of, flush_ended}
 use Rattle.deeds.specs.Shown.{Settles}
 use Rattle.pc_types.specs.declared.kind.Kind.TheVariants.{Flush}
-use Rattle.held.specs.Ends.{IsRecorded}
+use Rattle.held.specs.Ends.{HasFailure, IsRecorded}
+use Rattle.held.specs.Shown.{HeldSeen}
 use Rattle.held.proofs.Ends.{flush_end_went, records}
 use Rattle.held.proofs.Holds.{end_room, entry_fits, none_needed}
 use Rattle.held.proofs.InFlight.{goes_well, needs_none}
+use Rattle.held.proofs.Receipts.{has_failure, on_board}
 use Rattle.held.proofs.Tying.{on_ended}
 use Rattle.held.proofs.state.Held.end_flush.Goals as goal
 
@@ -30,6 +31,10 @@ gone_through-requires g c =
     goes_well s _ _ _ c.args.finished c.self.invariant.1.covered settled Flush c.requires.kind c.flush_end-answer.result
     c.flush_end-answer.new.self.state c.flush_end-answer.ensures.step
 
+pub record-receipt-requires : goal.record-receipt-requires
+record-receipt-requires g c =
+    on_board c.self.inside.core.state Flush c.args.finished.serial c.flush_end-answer.result c.flush_end-answer.ensures.file
+
 pub invariant_of-self : goal.invariant_of-self
 invariant_of-self g c =
     let s = c.self.inside.core.state in
@@ -47,10 +52,16 @@ invariant_of-self g c =
     c.flush_end-answer.ensures.step c.flush_end-answer.ensures.lists c.of_flush_end-reply.ensures
     c.enter-slip.ensures.entered c.enter-slip.ensures.room
     (records s (end_of c.args.finished) c.flush_end-answer.result c.record-receipt.result c.self.inside.recorder
-    c.record-receipt.new.recorder (subst (λ o. IsRecorded c.self.inside.recorder o c.flush_end-answer.result
-    c.record-receipt.result c.record-receipt.new.recorder) (c.flush_of-file.ensures.file ∙ ap (flush_of s) c.serial.ensures)
-    c.record-receipt.ensures))) in (
+    c.record-receipt.new.recorder c.flush_end-answer.ensures.file c.record-receipt.ensures)) in (
       m.1,
       on_ended Flush c.flush_end-answer.result c.args.finished c.args.deed c.take_back.new.self m.0 c.self.invariant.0.0
           c.self.invariant.1 c.requires.kind c.requires.deed c.take_back.ensures.settled,
     )
+
+pub returns-clause-failure : goal.returns-clause-failure
+returns-clause-failure g c =
+    subst (λ (h : HeldSeen). HasFailure h.core.state c.gone_through.result c.record-receipt.result) c.self.view_is
+    (has_failure c.self.inside.core.state c.self.inside.recorder c.record-receipt.new.recorder c.gone_through.result c.record-receipt.result
+    c.self.invariant.0.1.told
+    (subst (λ a. IsRecorded c.self.inside.recorder a c.record-receipt.result c.record-receipt.new.recorder) c.gone_through.ensures
+    c.record-receipt.ensures))

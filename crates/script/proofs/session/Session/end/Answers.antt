@@ -5,4 +5,9 @@ use Rattle.script.proofs.session.Session.end.Goals as goal
 pub invariant_of-self-in_default : goal.invariant_of-self-in_default
 invariant_of-self-in_default c =
     let i = c.self.inside in
-    end_session i.world c.step-reply.new.self i.board i.recorder i.recorder i.passes c.self.invariant c.args.serial c.step-reply.result c.step-reply.ensures refl
+    end_session i.world c.end-answer.new.self i.board i.recorder i.recorder i.passes c.self.invariant c.args.serial _ c.end-answer.ensures.ended refl
+
+pub invariant_of-self-in_default-2 : goal.invariant_of-self-in_default-2
+invariant_of-self-in_default-2 c =
+    let i = c.self.inside in
+    end_session i.world c.end-answer.new.self i.board i.recorder i.recorder i.passes c.self.invariant c.args.serial _ c.end-answer.ensures.ended refl

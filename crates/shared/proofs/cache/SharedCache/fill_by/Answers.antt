@@ -16,7 +16,7 @@ use Rattle.shared.proofs.cache.SharedCache.fill_by.Goals as goal
 pub returns-in-Failed-clause-denied : goal.returns-in-Failed-clause-denied
 returns-in-Failed-clause-denied g c =
     subst (IsDenied g.B.Naming.files g.B.Naming.sizes g.B.Naming.name g.B.Naming.whole (IsHelp c.args.handle) c.args.seat.now c.end-ended.new.seat) (sym c.by.ensures)
-    (failed_end g.B.Naming.files g.B.Naming.sizes g.B.Naming.name g.B.Naming.whole c.args.handle (end_of c.carry_out-report.result) c.in-Failed.code c.in-Failed.field-1
+    (failed_end g.B.Naming.files g.B.Naming.sizes g.B.Naming.name g.B.Naming.whole c.args.handle (end_of c.carry_out-report.result) c.in-Failed.field-0 c.in-Failed.code c.in-Failed.field-2
     c.deref_mut-2.result.now c.end-ended.new.self c.args.seat.now c.end-ended.new.seat c.end-ended.result.2
     (subst (λ (x : Ended). Made (event.End Fill (end_of c.carry_out-report.result)) (fill_ended (Ok x))
     c.deref_mut-2.result.now c.end-ended.new.self c.args.seat.now c.end-ended.new.seat c.end-ended.result.2)

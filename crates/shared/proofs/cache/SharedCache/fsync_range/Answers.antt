@@ -29,6 +29,7 @@ flush_after-flushed-requires-clause-clean g c =
     let s = c.in-Ok.ensures.ended in (
       s.at,
       s.sync,
+      s.began.goes.same.2 ∙ sym c.sync_pages.ensures.goes.same.2,
       subst (λ f. Makes s.at c.sync_pages.new.seat c.in-Ok.synced.slip (event.SyncStep s.sync) (end_reply f))
           c.in_default-failed.is s.ended,
     )

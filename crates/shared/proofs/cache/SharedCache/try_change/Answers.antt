@@ -12,6 +12,7 @@ use Rattle.shared.proofs.Making.{call_help, call_settled, first_again, first_mad
 use Rattle.shared.proofs.Owning.{change_no_flush, change_plain, only_missed, only_settled, only_try}
 use Rattle.shared.proofs.Rooming.{final_denied, lost_denied, wants_pass}
 use Rattle.shared.proofs.Sparing.{change_asked}
+use Rattle.shared.proofs.Waiting.{change_busy}
 use Rattle.shared.proofs.Wanting.{short_missed, short_settled}
 use Rattle.shared.proofs.Settling.{change_begins, change_ends, change_fills, change_noted, missed_by, missed_denied, missed_filled, missed_on, missed_room, settles_by, settles_denied, settles_on}
 use Rattle.shared.proofs.cache.SharedCache.try_change.Goals as goal
@@ -37,7 +38,7 @@ returns-in-Err-fill-clause-denied g c =
     call_help g.B.Naming.files g.B.Naming.sizes g.B.Naming.name g.B.Naming.whole c.args.handle (event_of c.args.change c.args.handle c.args.bytes.now) c.args.seat.now
     c.change_by.new.seat c.fill.new.seat c.in-Err-fill.denied (goes_by _ _ _ _ _ _ _ c.in-Ok.ensures.made)
     (subst (λ (h : HandleId). IsDenied g.B.Naming.files g.B.Naming.sizes g.B.Naming.name g.B.Naming.whole (IsHelp h) c.change_by.new.seat c.fill.new.seat c.in-Err-fill.denied)
-    c.demand_of-demand.ensures c.in-Err-fill.ensures.denied)
+    c.demand_of-demand-2.ensures c.in-Err-fill.ensures.denied)
 
 pub returns-in-Ok-settle-clause-goes : goal.returns-in-Ok-settle-clause-goes
 returns-in-Ok-settle-clause-goes g c =
@@ -77,13 +78,13 @@ returns-in-Wait-clause-tried g c =
 pub returns-in-Ok-fill-clause-tried : goal.returns-in-Ok-fill-clause-tried
 returns-in-Ok-fill-clause-tried g c =
     only_missed c.args.handle _ _ _ _ _ _ _ _ _ c.in-Ok.ensures.made (change_plain c.args.change c.args.handle c.args.bytes.now)
-    (subst (λ (x : WriteAnswer). IsUndone (reply_of c.args.change x)) (sym c.in-Miss.is) tt) c.demand_of-demand.ensures
+    (subst (λ (x : WriteAnswer). IsUndone (reply_of c.args.change x)) (sym c.in-Miss.is) tt) c.demand_of-demand-2.ensures
     c.fill.ensures.only
 
 pub returns-in-Err-fill-clause-only : goal.returns-in-Err-fill-clause-only
 returns-in-Err-fill-clause-only g c =
     only_missed c.args.handle _ _ _ _ _ _ _ _ _ c.in-Ok.ensures.made (change_plain c.args.change c.args.handle c.args.bytes.now)
-    (subst (λ (x : WriteAnswer). IsUndone (reply_of c.args.change x)) (sym c.in-Miss.is) tt) c.demand_of-demand.ensures
+    (subst (λ (x : WriteAnswer). IsUndone (reply_of c.args.change x)) (sym c.in-Miss.is) tt) c.demand_of-demand-2.ensures
     c.fill.ensures.only
 
 pub returns-in-Ok-settle-clause-tried : goal.returns-in-Ok-settle-clause-tried
@@ -260,3 +261,12 @@ returns-in-Err-settle-clause-first g c =
     c.args.seat.now c.change_by.new.seat c.settle.new.seat c.in-Err.denied
     (change_noted c.args.change c.args.handle c.args.bytes.now) (wants_pass c.in-Err.denied.refusal) c.settle.ensures.quiet
     c.in-Err.ensures.denied c.settle.ensures.goes
+
+-- who is told to wait can: a request is in flight
+pub wait_for_end-requires : goal.wait_for_end-requires
+wait_for_end-requires g c =
+    change_busy c.deref_mut.result.now.core.state c.args.change c.args.handle c.args.bytes.now c.in-Wait.field-0
+    c.change_by.new.state.core.state
+    (subst (λ (x : WriteAnswer). Made (event_of c.args.change c.args.handle c.args.bytes.now) (reply_of c.args.change x)
+    c.deref_mut.result.now c.change_by.new.state c.args.seat.now c.change_by.new.seat c.in-Ok.made.1) c.in-Wait.is
+    c.in-Ok.ensures.made).step

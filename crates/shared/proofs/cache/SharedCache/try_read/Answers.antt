@@ -14,6 +14,7 @@ use Rattle.shared.specs.Own.{IsUndone}
 use Rattle.shared.proofs.Owning.{only_missed, only_try, only_try_denied}
 use Rattle.shared.proofs.Sizes.{read_counted}
 use Rattle.shared.proofs.Rooming.{lost_unwanted, read_unwanted}
+use Rattle.shared.proofs.Waiting.{read_busy}
 use Rattle.shared.proofs.Wanting.{short_denied, short_missed}
 use Rattle.shared.proofs.Settling.{missed_by, missed_denied, missed_filled, settles_by, settles_denied, settles_on}
 use Rattle.shared.proofs.cache.SharedCache.try_read.Goals as goal
@@ -191,3 +192,12 @@ returns-in-Err-fill-clause-first g c =
     (subst (λ (x : ReadAnswer). Made (event.Read c.args.handle c.args.offset (length c.args.out.now))
     (was_read (Ok x) c.read.new.out) c.deref_mut.result.now c.read.new.self c.args.seat.now c.read.new.seat
     c.in-Ok.made.1) c.in-Miss.is c.in-Ok.ensures.made) c.fill.ensures.goes)
+
+-- who is told to wait can: a request is in flight
+pub wait_for_end-requires : goal.wait_for_end-requires
+wait_for_end-requires g c =
+    read_busy c.deref_mut.result.now.core.state c.args.handle c.args.offset (length c.args.out.now) c.in-Wait.field-0
+    c.read.new.self.core.state
+    (subst (λ (x : ReadAnswer). Made (event.Read c.args.handle c.args.offset (length c.args.out.now))
+    (was_read (Ok x) c.read.new.out) c.deref_mut.result.now c.read.new.self c.args.seat.now c.read.new.seat
+    c.in-Ok.made.1) c.in-Wait.is c.in-Ok.ensures.made).step

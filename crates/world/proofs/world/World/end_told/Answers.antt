@@ -1,11 +1,15 @@
-use Rattle.std.proofs.Common.{◌∙◌, ap, sym, Some}
-use Rattle.std.specs.Prelude.{option_and_then}
+use Rattle.std.proofs.Common.{◌∙◌, ap, subst, sym, Some}
+use Rattle.std.specs.Prelude.{Ok, option_and_then}
+use Rattle.world.specs.Answers.{NamesFlush, end_says}
+use Rattle.world.specs.Ends.{end_as}
+use Rattle.world.specs.Stepping.{WorldSeen}
 use Rattle.world.specs.declared.jobs.Flight.TheVariants.{Asked}
 use Rattle.world.specs.declared.step.Step.TheVariants as step
 use Rattle.world.specs.Flights.{outcome_in, serial_of}
 use Rattle.world.proofs.CallReplies.{taken_apart, put_again, none_taken, same_table, end_keeps, end_made, end_never}
 use Rattle.world.proofs.CallReplies.{came_to, end_refused}
 use Rattle.world.proofs.Spares.{end_back, same_buffer, same_page, with_spare}
+use Rattle.world.proofs.EndNames.{end_as_says, names_flush}
 use Rattle.world.proofs.world.World.end_told.Goals as goal
 
 pub invariant_of-self : goal.invariant_of-self
@@ -17,7 +21,7 @@ invariant_of-self g c =
 
 pub returns-in-Ok-clause-ended : goal.returns-in-Ok-clause-ended
 returns-in-Ok-clause-ended g c =
-    rw c.of_end-answer.ensures.answer
+    rw (ap end_says c.of_end-answer.ensures.answer ∙ end_as_says c.kind-kind.result c.in-Ok.end)
     (end_made c.self.inside.core.state c.self.inside.jobs _ c.self.invariant.0 c.args.serial.0 c.in-Some-Made.finished
     (ap Some (sym c.in-Some-Made.field-0-is) ∙ c.in-Some-Made.ensures.job) c.kind-kind.result c.kind-kind.ensures
     c.args.self.now c.self.view_is c.hand_in.new.core.state _ c.in-Ok.ensures.step c.take.new.self
@@ -30,6 +34,14 @@ returns-in-Ok-clause-told g c =
     c.args.self.now c.self.view_is c.block-block.result.0 c.block-block.ensures c.outcome-outcome.result c.outcome-outcome.ensures c.of_end-answer.result.1
     (same_buffer c.in-Some-Made.finished c.in-Ok.end c.of_end-answer.result.1 c.in-Ok.ensures.back
     c.of_end-answer.ensures.buffer)
+
+pub returns-in-Ok-clause-file : goal.returns-in-Ok-clause-file
+returns-in-Ok-clause-file g c =
+    let serial = ap serial_of (sym c.in-Some-Made.field-0-is) ∙ c.in-Some-Made.ensures.serial in
+    rw c.of_end-answer.ensures.answer
+    (subst (λ (w : WorldSeen). NamesFlush w.core c.args.serial.0 (Ok (end_as c.kind-kind.result c.in-Ok.end))) c.self.view_is
+    (subst (λ t. NamesFlush c.self.inside.core.state t (Ok (end_as c.kind-kind.result c.in-Ok.end))) serial
+    (names_flush c.self.inside.core.state c.kind-kind.result c.in-Some-Made.finished.serial c.in-Ok.end c.in-Ok.ensures.file)))
 
 pub returns-in-Ok-clause-size : goal.returns-in-Ok-clause-size
 returns-in-Ok-clause-size g c =

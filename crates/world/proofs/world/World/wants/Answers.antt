@@ -6,4 +6,4 @@ use Rattle.world.proofs.world.World.wants.Goals as goal
 pub returns : goal.returns
 returns g c =
     c.wants.ensures
-    ∙ ap (λ (w : WorldSeen). wants c.args.dirties w.core c.args.handle.0 c.args.offset c.args.count) c.self.view_is
+    ∙ ap (λ (w : WorldSeen). wants c.args.demand.dirties w.core c.args.demand.handle.0 c.args.demand.offset c.args.demand.count) c.self.view_is

@@ -2,8 +2,8 @@ use Rattle.std.proofs.Common.{rules, ◌≡◌, ◌+◌, ◌-◌, ◌/◌, true,
 use Rattle.machine.specs.State.{handle_file}
 use Rattle.cachecore.specs.Wants.{lacks_frames, may_touch}
 use Rattle.cachecore.proofs.Wanted.{over_is, wants_clean, wants_none}
-use Rattle.cachecore.proofs.cache.CacheCore.wants.Goals as goal
-use Rattle.cachecore.proofs.cache.CacheCore.wants.Goals.{else-dirties-via-then-dirties+else-is_over_limit, else-dirties-via-else-dirties}
+use Rattle.cachecore.proofs.cache.CacheCore.room_for.Goals as goal
+use Rattle.cachecore.proofs.cache.CacheCore.room_for.Goals.{else-dirties-via-then-dirties+else-is_over_limit, else-dirties-via-else-dirties}
 
 pub returns-then-is_over_limit : goal.returns-then-is_over_limit
 returns-then-is_over_limit c =
