@@ -2,12 +2,13 @@
 //!
 //! File F stands in shard F mod n, as that shard's file F / n. A thread that works in one shard waits for no other shard's lock and no
 //! other shard's device. `naming` has what a program names, `parts` what the cache is made of, `cache` the cache, `place` the place of a
-//! shard in it, `seat` and `handle` what a caller has. `files`, `bytes`, `sync`, `errors` and `standing` have the calls of callers, `worker`
-//! and `work` the workers and theirs, and `close` the end. `config` says what a cache may be made of, `rows` deals out the seats, and
-//! `denied` is why a file was not made, and `durable` what an fsync succeeds with.
+//! shard in it, `seat` and `handle` what a caller has. `call` hands a call down to the cache of its shard. `files`, `bytes`, `sync`, `errors`
+//! and `standing` have the calls of callers, `worker` and `work` the workers and theirs, and `close` the end. `config` says what a cache may
+//! be made of, `rows` deals out the seats, `denied` is why a file was not made, and `durable` what an fsync succeeds with.
 
 mod bytes;
 pub mod cache;
+mod call;
 pub mod close;
 mod config;
 pub mod denied;

@@ -1,576 +1,221 @@
 //! Reads and writes, where the next one begins, and how long a file is.
 
-ghost use Rattle.std.specs.Prelude.{◌≡◌, ◌+◌, ◌≢◌, ◌<◌, ◌≤◌, Err, None, false, true};
+ghost use Rattle.std.specs.Prelude.{◌≡◌, ◌+◌, ◌≢◌, ◌<◌, ◌≤◌, ⊤, Err, None, false, true};
 ghost use Rattle.pc_types.specs.declared.refusal.Refusal.TheVariants.{BadHandle, Stranger};
-ghost use Rattle.held.specs.Called.{Goes};
 ghost use Rattle.shared.specs.ShardCalls.{Cuts, Measures, Moves, Reads, ReadsOn, Writes, WritesOn};
 ghost use Rattle.shared.specs.ShardSeats.{AreSeated, OnlyAt, is_of, part};
 
 use crate::cache::SharedCache;
 use crate::handle::Handle;
 use crate::shards::cache::ShardedCache;
+use crate::shards::call::SeatCall;
 use crate::shards::handle::ShardHandle;
-use crate::shards::naming::{Shard, ShardNaming};
-use crate::shards::place::{Four, Place, Sixteen, at_quarter};
+use crate::shards::naming::ShardNaming;
 use crate::shards::seat::ShardSeat;
 use crate::writes::Wrote;
 use blockdev::BlockDevice;
 use cursor::Seek;
 use held::denied::{Denied, without_slip};
 use held::log::{Seat, Slip};
+use held::naming::Naming;
 use pc_types::Refusal;
 use std::sync::Wait;
 use trail::Trail;
 
-impl<B: ShardNaming, D: BlockDevice, T: Trail, const K: u64> SharedCache<Shard<B, K>, D, T> {
-    #[inline(always)]
-    fn pread_in<R: Wait>(
-        &self,
-        rt: &R,
-        own: &mut Seat,
-        handle: &Handle,
-        offset: u64,
-        out: &mut [u8],
-    ) -> Result<(u64, Slip), Denied>
-        requires seat { own.old.name ≡ (B.names K).name → own.old.table ≡ (B.names K).table }
-        ensures goes { Goes own.old own.new }
-        ensures foreign { own.old.name ≢ (B.names K).name → (result ≡ Err (record { refusal = Stranger; slip = None })) × (own.new ≡ own.old) × (out.new ≡ out.old) }
-        ensures call { own.old.name ≡ (B.names K).name → Reads (B.names K) handle.now offset out.old out.new result own.old own.new }
-    {
-        self.pread(rt, own, handle, offset, out)
-    }
+#[derive(Drop)]
+struct Pread<'h, 'o> {
+    handle: &'h Handle,
+    offset: u64,
+    out: &'o mut [u8],
+}
+
+impl<'h, 'o, D: BlockDevice, T: Trail> SeatCall<D, T> for Pread<'h, 'o> {
+    type Answer = Result<(u64, Slip), Denied>;
+
+    ghost owes = { λ _ _. ⊤ };
+
+    ghost refuses = { λ a b r. (r ≡ Err (record { refusal = Stranger; slip = None })) × (b.out.now ≡ a.out.now) };
+
+    ghost keeps = { λ _ a b _. b.out.ghost_name ≡ a.out.ghost_name };
+
+    ghost does = { λ n a b r s t. Reads n a.handle.now a.offset a.out.now b.out.now r s t };
 
     #[inline(always)]
-    fn read_in<R: Wait>(
-        &self,
+    fn on<B: Naming, R: Wait>(
+        &mut self,
         rt: &R,
         own: &mut Seat,
-        handle: &mut Handle,
-        out: &mut [u8],
-    ) -> Result<(u64, Slip), Denied>
-        requires seat { own.old.name ≡ (B.names K).name → own.old.table ≡ (B.names K).table }
-        ensures goes { Goes own.old own.new }
-        ensures foreign { own.old.name ≢ (B.names K).name → (result ≡ Err (record { refusal = Stranger; slip = None })) × (own.new ≡ own.old) × (out.new ≡ out.old) × (handle.new ≡ handle.old) }
-        ensures same { handle.new ≡ record handle.old { cursor = handle.new.cursor } }
-        ensures call { own.old.name ≡ (B.names K).name → ReadsOn (B.names K) handle.old handle.new out.old out.new result own.old own.new }
-    {
-        self.read(rt, own, handle, out)
-    }
-
-    fn seek_in<R: Wait>(
-        &self,
-        rt: &R,
-        own: &mut Seat,
-        handle: &mut Handle,
-        place: Seek,
-    ) -> Result<(u64, Option<Slip>), Denied>
-        requires seat { own.old.name ≡ (B.names K).name → own.old.table ≡ (B.names K).table }
-        ensures goes { Goes own.old own.new }
-        ensures foreign { own.old.name ≢ (B.names K).name → (result ≡ Err (record { refusal = Stranger; slip = None })) × (own.new ≡ own.old) × (handle.new ≡ handle.old) }
-        ensures same { handle.new ≡ record handle.old { cursor = handle.new.cursor } }
-        ensures call { own.old.name ≡ (B.names K).name → Moves (B.names K) place handle.old handle.new result own.old own.new }
-    {
-        self.seek(rt, own, handle, place)
-    }
-
-    #[inline(always)]
-    fn pwrite_in<R: Wait>(
-        &self,
-        rt: &R,
-        own: &mut Seat,
-        handle: &Handle,
-        offset: u64,
-        bytes: &[u8],
-    ) -> Result<(Wrote, Slip), Denied>
-        requires seat { own.old.name ≡ (B.names K).name → own.old.table ≡ (B.names K).table }
-        ensures goes { Goes own.old own.new }
-        ensures foreign { own.old.name ≢ (B.names K).name → (result ≡ Err (record { refusal = Stranger; slip = None })) × (own.new ≡ own.old) }
-        ensures call { own.old.name ≡ (B.names K).name → Writes (B.names K) handle.now offset bytes.now result own.old own.new }
-    {
-        self.pwrite(rt, own, handle, offset, bytes)
-    }
-
-    #[inline(always)]
-    fn write_in<R: Wait>(
-        &self,
-        rt: &R,
-        own: &mut Seat,
-        handle: &mut Handle,
-        bytes: &[u8],
-    ) -> Result<(Wrote, Slip), Denied>
-        requires seat { own.old.name ≡ (B.names K).name → own.old.table ≡ (B.names K).table }
-        ensures goes { Goes own.old own.new }
-        ensures foreign { own.old.name ≢ (B.names K).name → (result ≡ Err (record { refusal = Stranger; slip = None })) × (own.new ≡ own.old) × (handle.new ≡ handle.old) }
-        ensures same { handle.new ≡ record handle.old { cursor = handle.new.cursor } }
-        ensures call { own.old.name ≡ (B.names K).name → WritesOn (B.names K) handle.old handle.new bytes.now result own.old own.new }
-    {
-        self.write(rt, own, handle, bytes)
-    }
-
-    fn truncate_in<R: Wait>(
-        &self,
-        rt: &R,
-        own: &mut Seat,
-        handle: &Handle,
-        size: u64,
-    ) -> Result<Slip, Denied>
-        requires seat { own.old.name ≡ (B.names K).name → own.old.table ≡ (B.names K).table }
-        ensures goes { Goes own.old own.new }
-        ensures foreign { own.old.name ≢ (B.names K).name → (result ≡ Err (record { refusal = Stranger; slip = None })) × (own.new ≡ own.old) }
-        ensures call { own.old.name ≡ (B.names K).name → Cuts (B.names K) handle.now size result own.old own.new }
-    {
-        self.truncate(rt, own, handle, size)
-    }
-
-    fn size_in<R: Wait>(
-        &self,
-        rt: &R,
-        own: &mut Seat,
-        handle: &Handle,
-    ) -> Result<(u64, Slip), Denied>
-        requires seat { own.old.name ≡ (B.names K).name → own.old.table ≡ (B.names K).table }
-        ensures goes { Goes own.old own.new }
-        ensures foreign { own.old.name ≢ (B.names K).name → (result ≡ Err (record { refusal = Stranger; slip = None })) × (own.new ≡ own.old) }
-        ensures call { own.old.name ≡ (B.names K).name → Measures (B.names K) handle.now result own.old own.new }
-    {
-        self.size(rt, own, handle)
+        cache: &SharedCache<B, D, T>,
+    ) -> Result<(u64, Slip), Denied> {
+        cache.pread(rt, own, self.handle, self.offset, self.out)
     }
 }
 
-impl<B: ShardNaming, D: BlockDevice, T: Trail, const K: u64> Place<B, D, T, K> {
-    #[inline(always)]
-    fn pread<R: Wait>(
-        &self,
-        rt: &R,
-        shard: u64,
-        own: &mut Seat,
-        handle: &Handle,
-        offset: u64,
-        out: &mut [u8],
-    ) -> Result<(u64, Slip), Denied>
-        requires at { (K ≤ shard) × (shard < K + 1) × (shard < B.shards) }
-        requires seat { own.old.name ≡ (B.names shard).name → own.old.table ≡ (B.names shard).table }
-        ensures goes { Goes own.old own.new }
-        ensures foreign { own.old.name ≢ (B.names shard).name → (result ≡ Err (record { refusal = Stranger; slip = None })) × (own.new ≡ own.old) × (out.new ≡ out.old) }
-        ensures call { own.old.name ≡ (B.names shard).name → Reads (B.names shard) handle.now offset out.old out.new result own.old own.new }
-    {
-        self.cache().pread_in(rt, own, handle, offset, out)
-    }
+#[derive(Drop)]
+struct Read<'h, 'o> {
+    handle: &'h mut Handle,
+    out: &'o mut [u8],
+}
+
+impl<'h, 'o, D: BlockDevice, T: Trail> SeatCall<D, T> for Read<'h, 'o> {
+    type Answer = Result<(u64, Slip), Denied>;
+
+    ghost owes = { λ _ _. ⊤ };
+
+    ghost refuses = { λ a b r. (r ≡ Err (record { refusal = Stranger; slip = None })) × (b.out.now ≡ a.out.now) × (b.handle.now ≡ a.handle.now) };
+
+    ghost keeps = { λ _ a b _. (b.handle.ghost_name ≡ a.handle.ghost_name) × (b.out.ghost_name ≡ a.out.ghost_name) × (b.handle.now ≡ record a.handle.now { cursor = b.handle.now.cursor }) };
+
+    ghost does = { λ n a b r s t. ReadsOn n a.handle.now b.handle.now a.out.now b.out.now r s t };
 
     #[inline(always)]
-    fn read<R: Wait>(
-        &self,
+    fn on<B: Naming, R: Wait>(
+        &mut self,
         rt: &R,
-        shard: u64,
         own: &mut Seat,
-        handle: &mut Handle,
-        out: &mut [u8],
-    ) -> Result<(u64, Slip), Denied>
-        requires at { (K ≤ shard) × (shard < K + 1) × (shard < B.shards) }
-        requires seat { own.old.name ≡ (B.names shard).name → own.old.table ≡ (B.names shard).table }
-        ensures goes { Goes own.old own.new }
-        ensures foreign { own.old.name ≢ (B.names shard).name → (result ≡ Err (record { refusal = Stranger; slip = None })) × (own.new ≡ own.old) × (out.new ≡ out.old) × (handle.new ≡ handle.old) }
-        ensures same { handle.new ≡ record handle.old { cursor = handle.new.cursor } }
-        ensures call { own.old.name ≡ (B.names shard).name → ReadsOn (B.names shard) handle.old handle.new out.old out.new result own.old own.new }
-    {
-        self.cache().read_in(rt, own, handle, out)
-    }
-
-    fn seek<R: Wait>(
-        &self,
-        rt: &R,
-        shard: u64,
-        own: &mut Seat,
-        handle: &mut Handle,
-        place: Seek,
-    ) -> Result<(u64, Option<Slip>), Denied>
-        requires at { (K ≤ shard) × (shard < K + 1) × (shard < B.shards) }
-        requires seat { own.old.name ≡ (B.names shard).name → own.old.table ≡ (B.names shard).table }
-        ensures goes { Goes own.old own.new }
-        ensures foreign { own.old.name ≢ (B.names shard).name → (result ≡ Err (record { refusal = Stranger; slip = None })) × (own.new ≡ own.old) × (handle.new ≡ handle.old) }
-        ensures same { handle.new ≡ record handle.old { cursor = handle.new.cursor } }
-        ensures call { own.old.name ≡ (B.names shard).name → Moves (B.names shard) place handle.old handle.new result own.old own.new }
-    {
-        self.cache().seek_in(rt, own, handle, place)
-    }
-
-    #[inline(always)]
-    fn pwrite<R: Wait>(
-        &self,
-        rt: &R,
-        shard: u64,
-        own: &mut Seat,
-        handle: &Handle,
-        offset: u64,
-        bytes: &[u8],
-    ) -> Result<(Wrote, Slip), Denied>
-        requires at { (K ≤ shard) × (shard < K + 1) × (shard < B.shards) }
-        requires seat { own.old.name ≡ (B.names shard).name → own.old.table ≡ (B.names shard).table }
-        ensures goes { Goes own.old own.new }
-        ensures foreign { own.old.name ≢ (B.names shard).name → (result ≡ Err (record { refusal = Stranger; slip = None })) × (own.new ≡ own.old) }
-        ensures call { own.old.name ≡ (B.names shard).name → Writes (B.names shard) handle.now offset bytes.now result own.old own.new }
-    {
-        self.cache().pwrite_in(rt, own, handle, offset, bytes)
-    }
-
-    #[inline(always)]
-    fn write<R: Wait>(
-        &self,
-        rt: &R,
-        shard: u64,
-        own: &mut Seat,
-        handle: &mut Handle,
-        bytes: &[u8],
-    ) -> Result<(Wrote, Slip), Denied>
-        requires at { (K ≤ shard) × (shard < K + 1) × (shard < B.shards) }
-        requires seat { own.old.name ≡ (B.names shard).name → own.old.table ≡ (B.names shard).table }
-        ensures goes { Goes own.old own.new }
-        ensures foreign { own.old.name ≢ (B.names shard).name → (result ≡ Err (record { refusal = Stranger; slip = None })) × (own.new ≡ own.old) × (handle.new ≡ handle.old) }
-        ensures same { handle.new ≡ record handle.old { cursor = handle.new.cursor } }
-        ensures call { own.old.name ≡ (B.names shard).name → WritesOn (B.names shard) handle.old handle.new bytes.now result own.old own.new }
-    {
-        self.cache().write_in(rt, own, handle, bytes)
-    }
-
-    fn truncate<R: Wait>(
-        &self,
-        rt: &R,
-        shard: u64,
-        own: &mut Seat,
-        handle: &Handle,
-        size: u64,
-    ) -> Result<Slip, Denied>
-        requires at { (K ≤ shard) × (shard < K + 1) × (shard < B.shards) }
-        requires seat { own.old.name ≡ (B.names shard).name → own.old.table ≡ (B.names shard).table }
-        ensures goes { Goes own.old own.new }
-        ensures foreign { own.old.name ≢ (B.names shard).name → (result ≡ Err (record { refusal = Stranger; slip = None })) × (own.new ≡ own.old) }
-        ensures call { own.old.name ≡ (B.names shard).name → Cuts (B.names shard) handle.now size result own.old own.new }
-    {
-        self.cache().truncate_in(rt, own, handle, size)
-    }
-
-    fn size<R: Wait>(
-        &self,
-        rt: &R,
-        shard: u64,
-        own: &mut Seat,
-        handle: &Handle,
-    ) -> Result<(u64, Slip), Denied>
-        requires at { (K ≤ shard) × (shard < K + 1) × (shard < B.shards) }
-        requires seat { own.old.name ≡ (B.names shard).name → own.old.table ≡ (B.names shard).table }
-        ensures goes { Goes own.old own.new }
-        ensures foreign { own.old.name ≢ (B.names shard).name → (result ≡ Err (record { refusal = Stranger; slip = None })) × (own.new ≡ own.old) }
-        ensures call { own.old.name ≡ (B.names shard).name → Measures (B.names shard) handle.now result own.old own.new }
-    {
-        self.cache().size_in(rt, own, handle)
+        cache: &SharedCache<B, D, T>,
+    ) -> Result<(u64, Slip), Denied> {
+        cache.read(rt, own, self.handle, self.out)
     }
 }
 
-impl<
-    B: ShardNaming,
-    D: BlockDevice,
-    T: Trail,
-    const I: u64,
-    const J: u64,
-    const K: u64,
-    const L: u64,
-> Four<B, D, T, I, J, K, L> {
-    #[inline(always)]
-    fn pread<R: Wait>(
-        &self,
-        rt: &R,
-        shard: u64,
-        own: &mut Seat,
-        handle: &Handle,
-        offset: u64,
-        out: &mut [u8],
-    ) -> Result<(u64, Slip), Denied>
-        requires whole { (J ≡ I + 1) × (K ≡ J + 1) × (L ≡ K + 1) }
-        requires at { (I ≤ shard) × (shard < L + 1) × (shard < B.shards) }
-        requires seat { own.old.name ≡ (B.names shard).name → own.old.table ≡ (B.names shard).table }
-        ensures goes { Goes own.old own.new }
-        ensures foreign { own.old.name ≢ (B.names shard).name → (result ≡ Err (record { refusal = Stranger; slip = None })) × (own.new ≡ own.old) × (out.new ≡ out.old) }
-        ensures call { own.old.name ≡ (B.names shard).name → Reads (B.names shard) handle.now offset out.old out.new result own.old own.new }
-    {
-        at_quarter!(
-            self,
-            shard,
-            [J, K, L],
-            pread(rt, shard, own, handle, offset, out)
-        )
-    }
+#[derive(Drop)]
+struct SeekTo<'h> {
+    handle: &'h mut Handle,
+    place: Seek,
+}
+
+impl<'h, D: BlockDevice, T: Trail> SeatCall<D, T> for SeekTo<'h> {
+    type Answer = Result<(u64, Option<Slip>), Denied>;
+
+    ghost owes = { λ _ _. ⊤ };
+
+    ghost refuses = { λ a b r. (r ≡ Err (record { refusal = Stranger; slip = None })) × (b.handle.now ≡ a.handle.now) };
+
+    ghost keeps = { λ _ a b _. (b.handle.ghost_name ≡ a.handle.ghost_name) × (b.handle.now ≡ record a.handle.now { cursor = b.handle.now.cursor }) };
+
+    ghost does = { λ n a b r s t. Moves n a.place a.handle.now b.handle.now r s t };
 
     #[inline(always)]
-    fn read<R: Wait>(
-        &self,
+    fn on<B: Naming, R: Wait>(
+        &mut self,
         rt: &R,
-        shard: u64,
         own: &mut Seat,
-        handle: &mut Handle,
-        out: &mut [u8],
-    ) -> Result<(u64, Slip), Denied>
-        requires whole { (J ≡ I + 1) × (K ≡ J + 1) × (L ≡ K + 1) }
-        requires at { (I ≤ shard) × (shard < L + 1) × (shard < B.shards) }
-        requires seat { own.old.name ≡ (B.names shard).name → own.old.table ≡ (B.names shard).table }
-        ensures goes { Goes own.old own.new }
-        ensures foreign { own.old.name ≢ (B.names shard).name → (result ≡ Err (record { refusal = Stranger; slip = None })) × (own.new ≡ own.old) × (out.new ≡ out.old) × (handle.new ≡ handle.old) }
-        ensures same { handle.new ≡ record handle.old { cursor = handle.new.cursor } }
-        ensures call { own.old.name ≡ (B.names shard).name → ReadsOn (B.names shard) handle.old handle.new out.old out.new result own.old own.new }
-    {
-        at_quarter!(self, shard, [J, K, L], read(rt, shard, own, handle, out))
-    }
-
-    fn seek<R: Wait>(
-        &self,
-        rt: &R,
-        shard: u64,
-        own: &mut Seat,
-        handle: &mut Handle,
-        place: Seek,
-    ) -> Result<(u64, Option<Slip>), Denied>
-        requires whole { (J ≡ I + 1) × (K ≡ J + 1) × (L ≡ K + 1) }
-        requires at { (I ≤ shard) × (shard < L + 1) × (shard < B.shards) }
-        requires seat { own.old.name ≡ (B.names shard).name → own.old.table ≡ (B.names shard).table }
-        ensures goes { Goes own.old own.new }
-        ensures foreign { own.old.name ≢ (B.names shard).name → (result ≡ Err (record { refusal = Stranger; slip = None })) × (own.new ≡ own.old) × (handle.new ≡ handle.old) }
-        ensures same { handle.new ≡ record handle.old { cursor = handle.new.cursor } }
-        ensures call { own.old.name ≡ (B.names shard).name → Moves (B.names shard) place handle.old handle.new result own.old own.new }
-    {
-        at_quarter!(self, shard, [J, K, L], seek(rt, shard, own, handle, place))
-    }
-
-    #[inline(always)]
-    fn pwrite<R: Wait>(
-        &self,
-        rt: &R,
-        shard: u64,
-        own: &mut Seat,
-        handle: &Handle,
-        offset: u64,
-        bytes: &[u8],
-    ) -> Result<(Wrote, Slip), Denied>
-        requires whole { (J ≡ I + 1) × (K ≡ J + 1) × (L ≡ K + 1) }
-        requires at { (I ≤ shard) × (shard < L + 1) × (shard < B.shards) }
-        requires seat { own.old.name ≡ (B.names shard).name → own.old.table ≡ (B.names shard).table }
-        ensures goes { Goes own.old own.new }
-        ensures foreign { own.old.name ≢ (B.names shard).name → (result ≡ Err (record { refusal = Stranger; slip = None })) × (own.new ≡ own.old) }
-        ensures call { own.old.name ≡ (B.names shard).name → Writes (B.names shard) handle.now offset bytes.now result own.old own.new }
-    {
-        at_quarter!(
-            self,
-            shard,
-            [J, K, L],
-            pwrite(rt, shard, own, handle, offset, bytes)
-        )
-    }
-
-    #[inline(always)]
-    fn write<R: Wait>(
-        &self,
-        rt: &R,
-        shard: u64,
-        own: &mut Seat,
-        handle: &mut Handle,
-        bytes: &[u8],
-    ) -> Result<(Wrote, Slip), Denied>
-        requires whole { (J ≡ I + 1) × (K ≡ J + 1) × (L ≡ K + 1) }
-        requires at { (I ≤ shard) × (shard < L + 1) × (shard < B.shards) }
-        requires seat { own.old.name ≡ (B.names shard).name → own.old.table ≡ (B.names shard).table }
-        ensures goes { Goes own.old own.new }
-        ensures foreign { own.old.name ≢ (B.names shard).name → (result ≡ Err (record { refusal = Stranger; slip = None })) × (own.new ≡ own.old) × (handle.new ≡ handle.old) }
-        ensures same { handle.new ≡ record handle.old { cursor = handle.new.cursor } }
-        ensures call { own.old.name ≡ (B.names shard).name → WritesOn (B.names shard) handle.old handle.new bytes.now result own.old own.new }
-    {
-        at_quarter!(self, shard, [J, K, L], write(rt, shard, own, handle, bytes))
-    }
-
-    fn truncate<R: Wait>(
-        &self,
-        rt: &R,
-        shard: u64,
-        own: &mut Seat,
-        handle: &Handle,
-        size: u64,
-    ) -> Result<Slip, Denied>
-        requires whole { (J ≡ I + 1) × (K ≡ J + 1) × (L ≡ K + 1) }
-        requires at { (I ≤ shard) × (shard < L + 1) × (shard < B.shards) }
-        requires seat { own.old.name ≡ (B.names shard).name → own.old.table ≡ (B.names shard).table }
-        ensures goes { Goes own.old own.new }
-        ensures foreign { own.old.name ≢ (B.names shard).name → (result ≡ Err (record { refusal = Stranger; slip = None })) × (own.new ≡ own.old) }
-        ensures call { own.old.name ≡ (B.names shard).name → Cuts (B.names shard) handle.now size result own.old own.new }
-    {
-        at_quarter!(
-            self,
-            shard,
-            [J, K, L],
-            truncate(rt, shard, own, handle, size)
-        )
-    }
-
-    fn size<R: Wait>(
-        &self,
-        rt: &R,
-        shard: u64,
-        own: &mut Seat,
-        handle: &Handle,
-    ) -> Result<(u64, Slip), Denied>
-        requires whole { (J ≡ I + 1) × (K ≡ J + 1) × (L ≡ K + 1) }
-        requires at { (I ≤ shard) × (shard < L + 1) × (shard < B.shards) }
-        requires seat { own.old.name ≡ (B.names shard).name → own.old.table ≡ (B.names shard).table }
-        ensures goes { Goes own.old own.new }
-        ensures foreign { own.old.name ≢ (B.names shard).name → (result ≡ Err (record { refusal = Stranger; slip = None })) × (own.new ≡ own.old) }
-        ensures call { own.old.name ≡ (B.names shard).name → Measures (B.names shard) handle.now result own.old own.new }
-    {
-        at_quarter!(self, shard, [J, K, L], size(rt, shard, own, handle))
+        cache: &SharedCache<B, D, T>,
+    ) -> Result<(u64, Option<Slip>), Denied> {
+        cache.seek(rt, own, self.handle, self.place)
     }
 }
 
-impl<B: ShardNaming, D: BlockDevice, T: Trail> Sixteen<B, D, T> {
-    #[inline(always)]
-    fn pread<R: Wait>(
-        &self,
-        rt: &R,
-        shard: u64,
-        own: &mut Seat,
-        handle: &Handle,
-        offset: u64,
-        out: &mut [u8],
-    ) -> Result<(u64, Slip), Denied>
-        requires at { (shard < 16) × (shard < B.shards) }
-        requires seat { own.old.name ≡ (B.names shard).name → own.old.table ≡ (B.names shard).table }
-        ensures goes { Goes own.old own.new }
-        ensures foreign { own.old.name ≢ (B.names shard).name → (result ≡ Err (record { refusal = Stranger; slip = None })) × (own.new ≡ own.old) × (out.new ≡ out.old) }
-        ensures call { own.old.name ≡ (B.names shard).name → Reads (B.names shard) handle.now offset out.old out.new result own.old own.new }
-    {
-        at_quarter!(
-            self,
-            shard,
-            [4, 8, 12],
-            pread(rt, shard, own, handle, offset, out)
-        )
-    }
+#[derive(Drop)]
+struct Pwrite<'h> {
+    handle: &'h Handle,
+    offset: u64,
+    bytes: &'h [u8],
+}
+
+impl<'h, D: BlockDevice, T: Trail> SeatCall<D, T> for Pwrite<'h> {
+    type Answer = Result<(Wrote, Slip), Denied>;
+
+    ghost owes = { λ _ _. ⊤ };
+
+    ghost refuses = { λ _ _ r. r ≡ Err (record { refusal = Stranger; slip = None }) };
+
+    ghost keeps = { λ _ _ _ _. ⊤ };
+
+    ghost does = { λ n a _ r s t. Writes n a.handle.now a.offset a.bytes.now r s t };
 
     #[inline(always)]
-    fn read<R: Wait>(
-        &self,
+    fn on<B: Naming, R: Wait>(
+        &mut self,
         rt: &R,
-        shard: u64,
         own: &mut Seat,
-        handle: &mut Handle,
-        out: &mut [u8],
-    ) -> Result<(u64, Slip), Denied>
-        requires at { (shard < 16) × (shard < B.shards) }
-        requires seat { own.old.name ≡ (B.names shard).name → own.old.table ≡ (B.names shard).table }
-        ensures goes { Goes own.old own.new }
-        ensures foreign { own.old.name ≢ (B.names shard).name → (result ≡ Err (record { refusal = Stranger; slip = None })) × (own.new ≡ own.old) × (out.new ≡ out.old) × (handle.new ≡ handle.old) }
-        ensures same { handle.new ≡ record handle.old { cursor = handle.new.cursor } }
-        ensures call { own.old.name ≡ (B.names shard).name → ReadsOn (B.names shard) handle.old handle.new out.old out.new result own.old own.new }
-    {
-        at_quarter!(self, shard, [4, 8, 12], read(rt, shard, own, handle, out))
+        cache: &SharedCache<B, D, T>,
+    ) -> Result<(Wrote, Slip), Denied> {
+        cache.pwrite(rt, own, self.handle, self.offset, self.bytes)
     }
+}
 
-    fn seek<R: Wait>(
-        &self,
-        rt: &R,
-        shard: u64,
-        own: &mut Seat,
-        handle: &mut Handle,
-        place: Seek,
-    ) -> Result<(u64, Option<Slip>), Denied>
-        requires at { (shard < 16) × (shard < B.shards) }
-        requires seat { own.old.name ≡ (B.names shard).name → own.old.table ≡ (B.names shard).table }
-        ensures goes { Goes own.old own.new }
-        ensures foreign { own.old.name ≢ (B.names shard).name → (result ≡ Err (record { refusal = Stranger; slip = None })) × (own.new ≡ own.old) × (handle.new ≡ handle.old) }
-        ensures same { handle.new ≡ record handle.old { cursor = handle.new.cursor } }
-        ensures call { own.old.name ≡ (B.names shard).name → Moves (B.names shard) place handle.old handle.new result own.old own.new }
-    {
-        at_quarter!(self, shard, [4, 8, 12], seek(rt, shard, own, handle, place))
-    }
+#[derive(Drop)]
+struct Write<'h, 'b> {
+    handle: &'h mut Handle,
+    bytes: &'b [u8],
+}
+
+impl<'h, 'b, D: BlockDevice, T: Trail> SeatCall<D, T> for Write<'h, 'b> {
+    type Answer = Result<(Wrote, Slip), Denied>;
+
+    ghost owes = { λ _ _. ⊤ };
+
+    ghost refuses = { λ a b r. (r ≡ Err (record { refusal = Stranger; slip = None })) × (b.handle.now ≡ a.handle.now) };
+
+    ghost keeps = { λ _ a b _. (b.handle.ghost_name ≡ a.handle.ghost_name) × (b.handle.now ≡ record a.handle.now { cursor = b.handle.now.cursor }) };
+
+    ghost does = { λ n a b r s t. WritesOn n a.handle.now b.handle.now a.bytes.now r s t };
 
     #[inline(always)]
-    fn pwrite<R: Wait>(
-        &self,
+    fn on<B: Naming, R: Wait>(
+        &mut self,
         rt: &R,
-        shard: u64,
         own: &mut Seat,
-        handle: &Handle,
-        offset: u64,
-        bytes: &[u8],
-    ) -> Result<(Wrote, Slip), Denied>
-        requires at { (shard < 16) × (shard < B.shards) }
-        requires seat { own.old.name ≡ (B.names shard).name → own.old.table ≡ (B.names shard).table }
-        ensures goes { Goes own.old own.new }
-        ensures foreign { own.old.name ≢ (B.names shard).name → (result ≡ Err (record { refusal = Stranger; slip = None })) × (own.new ≡ own.old) }
-        ensures call { own.old.name ≡ (B.names shard).name → Writes (B.names shard) handle.now offset bytes.now result own.old own.new }
-    {
-        at_quarter!(
-            self,
-            shard,
-            [4, 8, 12],
-            pwrite(rt, shard, own, handle, offset, bytes)
-        )
+        cache: &SharedCache<B, D, T>,
+    ) -> Result<(Wrote, Slip), Denied> {
+        cache.write(rt, own, self.handle, self.bytes)
     }
+}
+
+#[derive(Drop)]
+struct Truncate<'h> {
+    handle: &'h Handle,
+    size: u64,
+}
+
+impl<'h, D: BlockDevice, T: Trail> SeatCall<D, T> for Truncate<'h> {
+    type Answer = Result<Slip, Denied>;
+
+    ghost owes = { λ _ _. ⊤ };
+
+    ghost refuses = { λ _ _ r. r ≡ Err (record { refusal = Stranger; slip = None }) };
+
+    ghost keeps = { λ _ _ _ _. ⊤ };
+
+    ghost does = { λ n a _ r s t. Cuts n a.handle.now a.size r s t };
 
     #[inline(always)]
-    fn write<R: Wait>(
-        &self,
+    fn on<B: Naming, R: Wait>(
+        &mut self,
         rt: &R,
-        shard: u64,
         own: &mut Seat,
-        handle: &mut Handle,
-        bytes: &[u8],
-    ) -> Result<(Wrote, Slip), Denied>
-        requires at { (shard < 16) × (shard < B.shards) }
-        requires seat { own.old.name ≡ (B.names shard).name → own.old.table ≡ (B.names shard).table }
-        ensures goes { Goes own.old own.new }
-        ensures foreign { own.old.name ≢ (B.names shard).name → (result ≡ Err (record { refusal = Stranger; slip = None })) × (own.new ≡ own.old) × (handle.new ≡ handle.old) }
-        ensures same { handle.new ≡ record handle.old { cursor = handle.new.cursor } }
-        ensures call { own.old.name ≡ (B.names shard).name → WritesOn (B.names shard) handle.old handle.new bytes.now result own.old own.new }
-    {
-        at_quarter!(
-            self,
-            shard,
-            [4, 8, 12],
-            write(rt, shard, own, handle, bytes)
-        )
+        cache: &SharedCache<B, D, T>,
+    ) -> Result<Slip, Denied> {
+        cache.truncate(rt, own, self.handle, self.size)
     }
+}
 
-    fn truncate<R: Wait>(
-        &self,
-        rt: &R,
-        shard: u64,
-        own: &mut Seat,
-        handle: &Handle,
-        size: u64,
-    ) -> Result<Slip, Denied>
-        requires at { (shard < 16) × (shard < B.shards) }
-        requires seat { own.old.name ≡ (B.names shard).name → own.old.table ≡ (B.names shard).table }
-        ensures goes { Goes own.old own.new }
-        ensures foreign { own.old.name ≢ (B.names shard).name → (result ≡ Err (record { refusal = Stranger; slip = None })) × (own.new ≡ own.old) }
-        ensures call { own.old.name ≡ (B.names shard).name → Cuts (B.names shard) handle.now size result own.old own.new }
-    {
-        at_quarter!(
-            self,
-            shard,
-            [4, 8, 12],
-            truncate(rt, shard, own, handle, size)
-        )
-    }
+#[derive(Drop)]
+struct Size<'h> {
+    handle: &'h Handle,
+}
 
-    fn size<R: Wait>(
-        &self,
+impl<'h, D: BlockDevice, T: Trail> SeatCall<D, T> for Size<'h> {
+    type Answer = Result<(u64, Slip), Denied>;
+
+    ghost owes = { λ _ _. ⊤ };
+
+    ghost refuses = { λ _ _ r. r ≡ Err (record { refusal = Stranger; slip = None }) };
+
+    ghost keeps = { λ _ _ _ _. ⊤ };
+
+    ghost does = { λ n a _ r s t. Measures n a.handle.now r s t };
+
+    #[inline(always)]
+    fn on<B: Naming, R: Wait>(
+        &mut self,
         rt: &R,
-        shard: u64,
         own: &mut Seat,
-        handle: &Handle,
-    ) -> Result<(u64, Slip), Denied>
-        requires at { (shard < 16) × (shard < B.shards) }
-        requires seat { own.old.name ≡ (B.names shard).name → own.old.table ≡ (B.names shard).table }
-        ensures goes { Goes own.old own.new }
-        ensures foreign { own.old.name ≢ (B.names shard).name → (result ≡ Err (record { refusal = Stranger; slip = None })) × (own.new ≡ own.old) }
-        ensures call { own.old.name ≡ (B.names shard).name → Measures (B.names shard) handle.now result own.old own.new }
-    {
-        at_quarter!(self, shard, [4, 8, 12], size(rt, shard, own, handle))
+        cache: &SharedCache<B, D, T>,
+    ) -> Result<(u64, Slip), Denied> {
+        cache.size(rt, own, self.handle)
     }
 }
 
@@ -599,8 +244,12 @@ impl<B: ShardNaming, D: BlockDevice, T: Trail> ShardedCache<B, D, T> {
         let Some(own) = seat.seats.get_mut(handle.shard as usize) else {
             return Err(without_slip(Refusal::Stranger));
         };
-        self.caches
-            .pread(rt, handle.shard, own, &handle.handle, offset, out)
+        let mut call = Pread {
+            handle: &handle.handle,
+            offset,
+            out,
+        };
+        self.caches.ask(rt, handle.shard, own, &mut call)
     }
 
     /// Reads at the cursor, as `pread` does there, and moves the cursor by the count.
@@ -626,8 +275,11 @@ impl<B: ShardNaming, D: BlockDevice, T: Trail> ShardedCache<B, D, T> {
         let Some(own) = seat.seats.get_mut(handle.shard as usize) else {
             return Err(without_slip(Refusal::Stranger));
         };
-        self.caches
-            .read(rt, handle.shard, own, &mut handle.handle, out)
+        let mut call = Read {
+            handle: &mut handle.handle,
+            out,
+        };
+        self.caches.ask(rt, handle.shard, own, &mut call)
     }
 
     /// Puts the cursor, and answers where it is now. Refused by `TooLarge` below 0 and past the greatest size of a file. Only a place
@@ -654,8 +306,11 @@ impl<B: ShardNaming, D: BlockDevice, T: Trail> ShardedCache<B, D, T> {
         let Some(own) = seat.seats.get_mut(handle.shard as usize) else {
             return Err(without_slip(Refusal::Stranger));
         };
-        self.caches
-            .seek(rt, handle.shard, own, &mut handle.handle, place)
+        let mut call = SeekTo {
+            handle: &mut handle.handle,
+            place,
+        };
+        self.caches.ask(rt, handle.shard, own, &mut call)
     }
 
     /// Writes the bytes into the file from `offset` on, all of them, also by an appending handle. A gap before them reads as zeros. A
@@ -682,8 +337,12 @@ impl<B: ShardNaming, D: BlockDevice, T: Trail> ShardedCache<B, D, T> {
         let Some(own) = seat.seats.get_mut(handle.shard as usize) else {
             return Err(without_slip(Refusal::Stranger));
         };
-        self.caches
-            .pwrite(rt, handle.shard, own, &handle.handle, offset, bytes)
+        let mut call = Pwrite {
+            handle: &handle.handle,
+            offset,
+            bytes,
+        };
+        self.caches.ask(rt, handle.shard, own, &mut call)
     }
 
     /// Writes at the cursor, or with an appending handle at the end of the file, all of the bytes, and puts the cursor behind them.
@@ -709,8 +368,11 @@ impl<B: ShardNaming, D: BlockDevice, T: Trail> ShardedCache<B, D, T> {
         let Some(own) = seat.seats.get_mut(handle.shard as usize) else {
             return Err(without_slip(Refusal::Stranger));
         };
-        self.caches
-            .write(rt, handle.shard, own, &mut handle.handle, bytes)
+        let mut call = Write {
+            handle: &mut handle.handle,
+            bytes,
+        };
+        self.caches.ask(rt, handle.shard, own, &mut call)
     }
 
     /// Makes the file as long as this, in bytes. A longer one gains zeros. The cursor stays.
@@ -735,8 +397,11 @@ impl<B: ShardNaming, D: BlockDevice, T: Trail> ShardedCache<B, D, T> {
         let Some(own) = seat.seats.get_mut(handle.shard as usize) else {
             return Err(without_slip(Refusal::Stranger));
         };
-        self.caches
-            .truncate(rt, handle.shard, own, &handle.handle, size)
+        let mut call = Truncate {
+            handle: &handle.handle,
+            size,
+        };
+        self.caches.ask(rt, handle.shard, own, &mut call)
     }
 
     /// The size of the handle's file, in bytes.
@@ -760,6 +425,9 @@ impl<B: ShardNaming, D: BlockDevice, T: Trail> ShardedCache<B, D, T> {
         let Some(own) = seat.seats.get_mut(handle.shard as usize) else {
             return Err(without_slip(Refusal::Stranger));
         };
-        self.caches.size(rt, handle.shard, own, &handle.handle)
+        let mut call = Size {
+            handle: &handle.handle,
+        };
+        self.caches.ask(rt, handle.shard, own, &mut call)
     }
 }

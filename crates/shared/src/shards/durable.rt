@@ -1,11 +1,12 @@
 //! What an fsync of a shard succeeds with.
 
-ghost use Rattle.std.specs.Prelude.{◌≡◌, ◌<◌};
+ghost use Rattle.std.specs.Prelude.{◌≡◌, ◌<◌, ℕ};
 
 use crate::disk::Durable;
-use crate::shards::naming::{Shard, ShardNaming};
+use crate::shards::naming::ShardNaming;
 use blockdev::BlockDevice;
 use held::log::Slip;
+use held::naming::Naming;
 use std::marker::{Model, PhantomData};
 
 /// The slip of an entry of a shard: all that its device had been told to write before was flushed since, and well. It is made of a
@@ -28,8 +29,8 @@ impl<B: ShardNaming, D: BlockDevice> Model for ShardDurable<B, D> {
 }
 
 impl<B: ShardNaming, D: BlockDevice> ShardDurable<B, D> {
-    pub(crate) fn of<const K: u64>(durable: Durable<Shard<B, K>, D>) -> ShardDurable<B, D>
-        requires { K < B.shards }
+    pub(crate) fn of<N: Naming>(durable: Durable<N, D>) -> ShardDurable<B, D>
+        requires { (k : ℕ) × (k < B.shards) × (N.name ≡ (B.names k).name) }
         ensures { result ≡ durable }
     {
         ShardDurable {

@@ -1,12 +1,12 @@
 //! Files and handles.
 
-ghost use Rattle.std.specs.Prelude.{◌≡◌, ◌+◌, ◌≢◌, ◌/◌, ◌%◌, ◌<◌, ◌≤◌, Err, IfErr, IfNone, IfOk, IfSome, None, Result, Some, false, true};
+ghost use Rattle.std.specs.Prelude.{◌≡◌, ◌+◌, ◌≢◌, ◌/◌, ◌%◌, ◌<◌, ◌≤◌, ⊤, Err, IfErr, IfNone, IfOk, IfSome, None, Result, Some, false, true};
 ghost use Rattle.atomic_table.specs.Seated.{TableId};
-ghost use Rattle.held.specs.Called.{Goes};
 ghost use Rattle.held.specs.declared.denied.Denied.{Denied};
 ghost use Rattle.held.specs.declared.log.Slip.{Slip};
 ghost use Rattle.pc_types.specs.declared.ids.FileId.{FileId};
 ghost use Rattle.pc_types.specs.declared.refusal.Refusal.TheVariants.{BadHandle, NoSuchFile, Stranger};
+ghost use Rattle.shared.specs.Seen.{HandleSeen};
 ghost use Rattle.shared.specs.ShardCalls.{Closes, Creates, Opens, number_of};
 ghost use Rattle.shared.specs.ShardResults.{closed_in, numbered, opened_in};
 ghost use Rattle.shared.specs.ShardSeats.{AreSeated, OnlyAt, is_of, part};
@@ -15,222 +15,97 @@ ghost use Rattle.shared.specs.declared.shards.denied.CreateDenied.TheVariants.{B
 use crate::cache::SharedCache;
 use crate::handle::Handle;
 use crate::shards::cache::ShardedCache;
+use crate::shards::call::SeatCall;
 use crate::shards::denied::CreateDenied;
 use crate::shards::handle::ShardHandle;
-use crate::shards::naming::{Shard, ShardNaming};
-use crate::shards::place::{Four, Place, Sixteen, at_quarter};
+use crate::shards::naming::ShardNaming;
 use crate::shards::seat::ShardSeat;
 use blockdev::BlockDevice;
 use held::denied::{Denied, without_slip};
 use held::log::{Seat, Slip};
+use held::naming::Naming;
 use pc_types::{FileId, Refusal};
 use std::sync::Wait;
 use trail::Trail;
 
-impl<B: ShardNaming, D: BlockDevice, T: Trail, const K: u64> SharedCache<Shard<B, K>, D, T> {
-    fn create_in<R: Wait>(&self, rt: &R, own: &mut Seat) -> Result<(FileId, Slip), Denied>
-        requires seat { own.old.name ≡ (B.names K).name → own.old.table ≡ (B.names K).table }
-        ensures goes { Goes own.old own.new }
-        ensures foreign { own.old.name ≢ (B.names K).name → (result ≡ Err (record { refusal = Stranger; slip = None })) × (own.new ≡ own.old) }
-        ensures few { IfOk result (λ r. r.0.0 < 64) }
-        ensures call { own.old.name ≡ (B.names K).name → Creates (B.names K) result own.old own.new }
-    {
-        self.create(rt, own)
-    }
+#[derive(Drop)]
+struct Create;
 
-    fn open_in<R: Wait>(
-        &self,
+impl<D: BlockDevice, T: Trail> SeatCall<D, T> for Create {
+    type Answer = Result<(FileId, Slip), Denied>;
+
+    ghost owes = { λ _ _. ⊤ };
+
+    ghost refuses = { λ _ _ r. r ≡ Err (record { refusal = Stranger; slip = None }) };
+
+    ghost keeps = { λ _ _ _ r. IfOk r (λ x. x.0.0 < 64) };
+
+    ghost does = { λ n _ _ r s t. Creates n r s t };
+
+    fn on<B: Naming, R: Wait>(
+        &mut self,
         rt: &R,
         own: &mut Seat,
-        file: FileId,
-        append: bool,
-    ) -> Result<(Handle, Slip), Denied>
-        requires seat { own.old.name ≡ (B.names K).name → own.old.table ≡ (B.names K).table }
-        ensures goes { Goes own.old own.new }
-        ensures foreign { own.old.name ≢ (B.names K).name → (result ≡ Err (record { refusal = Stranger; slip = None })) × (own.new ≡ own.old) }
-        ensures board { IfOk result (λ r. r.0.pass.board ≡ (B.names K).board) }
-        ensures call { own.old.name ≡ (B.names K).name → Opens (B.names K) file append result own.old own.new }
-    {
-        self.open(rt, own, file, append)
-    }
-
-    fn close_handle_in<R: Wait>(
-        &self,
-        rt: &R,
-        own: &mut Seat,
-        handle: Handle,
-    ) -> Result<Slip, (Denied, Handle)>
-        requires seat { own.old.name ≡ (B.names K).name → own.old.table ≡ (B.names K).table }
-        requires came { handle.cache ≡ (B.names K).name → handle.pass.board ≡ (B.names K).board }
-        ensures goes { Goes own.old own.new }
-        ensures foreign { own.old.name ≢ (B.names K).name → (result ≡ Err (record { refusal = Stranger; slip = None }, handle)) × (own.new ≡ own.old) }
-        ensures call { own.old.name ≡ (B.names K).name → Closes (B.names K) handle result own.old own.new }
-        ensures back { IfErr result (λ d. d.1 ≡ handle) }
-    {
-        self.close_handle(rt, own, handle)
+        cache: &SharedCache<B, D, T>,
+    ) -> Result<(FileId, Slip), Denied> {
+        cache.create(rt, own)
     }
 }
 
-impl<B: ShardNaming, D: BlockDevice, T: Trail, const K: u64> Place<B, D, T, K> {
-    fn create<R: Wait>(&self, rt: &R, shard: u64, own: &mut Seat) -> Result<(FileId, Slip), Denied>
-        requires at { (K ≤ shard) × (shard < K + 1) × (shard < B.shards) }
-        requires seat { own.old.name ≡ (B.names shard).name → own.old.table ≡ (B.names shard).table }
-        ensures goes { Goes own.old own.new }
-        ensures foreign { own.old.name ≢ (B.names shard).name → (result ≡ Err (record { refusal = Stranger; slip = None })) × (own.new ≡ own.old) }
-        ensures few { IfOk result (λ r. r.0.0 < 64) }
-        ensures call { own.old.name ≡ (B.names shard).name → Creates (B.names shard) result own.old own.new }
-    {
-        self.cache().create_in(rt, own)
-    }
+#[derive(Drop)]
+struct Open {
+    file: FileId,
+    append: bool,
+}
 
-    fn open<R: Wait>(
-        &self,
-        rt: &R,
-        shard: u64,
-        own: &mut Seat,
-        file: FileId,
-        append: bool,
-    ) -> Result<(Handle, Slip), Denied>
-        requires at { (K ≤ shard) × (shard < K + 1) × (shard < B.shards) }
-        requires seat { own.old.name ≡ (B.names shard).name → own.old.table ≡ (B.names shard).table }
-        ensures goes { Goes own.old own.new }
-        ensures foreign { own.old.name ≢ (B.names shard).name → (result ≡ Err (record { refusal = Stranger; slip = None })) × (own.new ≡ own.old) }
-        ensures board { IfOk result (λ r. r.0.pass.board ≡ (B.names shard).board) }
-        ensures call { own.old.name ≡ (B.names shard).name → Opens (B.names shard) file append result own.old own.new }
-    {
-        self.cache().open_in(rt, own, file, append)
-    }
+impl<D: BlockDevice, T: Trail> SeatCall<D, T> for Open {
+    type Answer = Result<(Handle, Slip), Denied>;
 
-    fn close_handle<R: Wait>(
-        &self,
+    ghost owes = { λ _ _. ⊤ };
+
+    ghost refuses = { λ _ _ r. r ≡ Err (record { refusal = Stranger; slip = None }) };
+
+    ghost keeps = { λ n _ _ r. IfOk r (λ x. x.0.pass.board ≡ n.board) };
+
+    ghost does = { λ n a _ r s t. Opens n a.file a.append r s t };
+
+    fn on<B: Naming, R: Wait>(
+        &mut self,
         rt: &R,
-        shard: u64,
         own: &mut Seat,
-        handle: Handle,
-    ) -> Result<Slip, (Denied, Handle)>
-        requires at { (K ≤ shard) × (shard < K + 1) × (shard < B.shards) }
-        requires seat { own.old.name ≡ (B.names shard).name → own.old.table ≡ (B.names shard).table }
-        requires came { handle.cache ≡ (B.names shard).name → handle.pass.board ≡ (B.names shard).board }
-        ensures goes { Goes own.old own.new }
-        ensures foreign { own.old.name ≢ (B.names shard).name → (result ≡ Err (record { refusal = Stranger; slip = None }, handle)) × (own.new ≡ own.old) }
-        ensures call { own.old.name ≡ (B.names shard).name → Closes (B.names shard) handle result own.old own.new }
-        ensures back { IfErr result (λ d. d.1 ≡ handle) }
-    {
-        self.cache().close_handle_in(rt, own, handle)
+        cache: &SharedCache<B, D, T>,
+    ) -> Result<(Handle, Slip), Denied> {
+        cache.open(rt, own, self.file, self.append)
     }
 }
 
-impl<
-    B: ShardNaming,
-    D: BlockDevice,
-    T: Trail,
-    const I: u64,
-    const J: u64,
-    const K: u64,
-    const L: u64,
-> Four<B, D, T, I, J, K, L> {
-    fn create<R: Wait>(&self, rt: &R, shard: u64, own: &mut Seat) -> Result<(FileId, Slip), Denied>
-        requires whole { (J ≡ I + 1) × (K ≡ J + 1) × (L ≡ K + 1) }
-        requires at { (I ≤ shard) × (shard < L + 1) × (shard < B.shards) }
-        requires seat { own.old.name ≡ (B.names shard).name → own.old.table ≡ (B.names shard).table }
-        ensures goes { Goes own.old own.new }
-        ensures foreign { own.old.name ≢ (B.names shard).name → (result ≡ Err (record { refusal = Stranger; slip = None })) × (own.new ≡ own.old) }
-        ensures few { IfOk result (λ r. r.0.0 < 64) }
-        ensures call { own.old.name ≡ (B.names shard).name → Creates (B.names shard) result own.old own.new }
-    {
-        at_quarter!(self, shard, [J, K, L], create(rt, shard, own))
-    }
-
-    fn open<R: Wait>(
-        &self,
-        rt: &R,
-        shard: u64,
-        own: &mut Seat,
-        file: FileId,
-        append: bool,
-    ) -> Result<(Handle, Slip), Denied>
-        requires whole { (J ≡ I + 1) × (K ≡ J + 1) × (L ≡ K + 1) }
-        requires at { (I ≤ shard) × (shard < L + 1) × (shard < B.shards) }
-        requires seat { own.old.name ≡ (B.names shard).name → own.old.table ≡ (B.names shard).table }
-        ensures goes { Goes own.old own.new }
-        ensures foreign { own.old.name ≢ (B.names shard).name → (result ≡ Err (record { refusal = Stranger; slip = None })) × (own.new ≡ own.old) }
-        ensures board { IfOk result (λ r. r.0.pass.board ≡ (B.names shard).board) }
-        ensures call { own.old.name ≡ (B.names shard).name → Opens (B.names shard) file append result own.old own.new }
-    {
-        at_quarter!(self, shard, [J, K, L], open(rt, shard, own, file, append))
-    }
-
-    fn close_handle<R: Wait>(
-        &self,
-        rt: &R,
-        shard: u64,
-        own: &mut Seat,
-        handle: Handle,
-    ) -> Result<Slip, (Denied, Handle)>
-        requires whole { (J ≡ I + 1) × (K ≡ J + 1) × (L ≡ K + 1) }
-        requires at { (I ≤ shard) × (shard < L + 1) × (shard < B.shards) }
-        requires seat { own.old.name ≡ (B.names shard).name → own.old.table ≡ (B.names shard).table }
-        requires came { handle.cache ≡ (B.names shard).name → handle.pass.board ≡ (B.names shard).board }
-        ensures goes { Goes own.old own.new }
-        ensures foreign { own.old.name ≢ (B.names shard).name → (result ≡ Err (record { refusal = Stranger; slip = None }, handle)) × (own.new ≡ own.old) }
-        ensures call { own.old.name ≡ (B.names shard).name → Closes (B.names shard) handle result own.old own.new }
-        ensures back { IfErr result (λ d. d.1 ≡ handle) }
-    {
-        at_quarter!(self, shard, [J, K, L], close_handle(rt, shard, own, handle))
-    }
+#[derive(Drop)]
+struct CloseHandle {
+    // until the cache takes it
+    handle: Option<Handle>,
 }
 
-impl<B: ShardNaming, D: BlockDevice, T: Trail> Sixteen<B, D, T> {
-    fn create<R: Wait>(&self, rt: &R, shard: u64, own: &mut Seat) -> Result<(FileId, Slip), Denied>
-        requires at { (shard < 16) × (shard < B.shards) }
-        requires seat { own.old.name ≡ (B.names shard).name → own.old.table ≡ (B.names shard).table }
-        ensures goes { Goes own.old own.new }
-        ensures foreign { own.old.name ≢ (B.names shard).name → (result ≡ Err (record { refusal = Stranger; slip = None })) × (own.new ≡ own.old) }
-        ensures few { IfOk result (λ r. r.0.0 < 64) }
-        ensures call { own.old.name ≡ (B.names shard).name → Creates (B.names shard) result own.old own.new }
-    {
-        at_quarter!(self, shard, [4, 8, 12], create(rt, shard, own))
-    }
+impl<D: BlockDevice, T: Trail> SeatCall<D, T> for CloseHandle {
+    type Answer = Result<Slip, (Denied, Handle)>;
 
-    fn open<R: Wait>(
-        &self,
-        rt: &R,
-        shard: u64,
-        own: &mut Seat,
-        file: FileId,
-        append: bool,
-    ) -> Result<(Handle, Slip), Denied>
-        requires at { (shard < 16) × (shard < B.shards) }
-        requires seat { own.old.name ≡ (B.names shard).name → own.old.table ≡ (B.names shard).table }
-        ensures goes { Goes own.old own.new }
-        ensures foreign { own.old.name ≢ (B.names shard).name → (result ≡ Err (record { refusal = Stranger; slip = None })) × (own.new ≡ own.old) }
-        ensures board { IfOk result (λ r. r.0.pass.board ≡ (B.names shard).board) }
-        ensures call { own.old.name ≡ (B.names shard).name → Opens (B.names shard) file append result own.old own.new }
-    {
-        at_quarter!(self, shard, [4, 8, 12], open(rt, shard, own, file, append))
-    }
+    ghost owes = { λ n a. (h : HandleSeen) × (a.handle ≡ Some h) × (h.cache ≡ n.name → h.pass.board ≡ n.board) };
 
-    fn close_handle<R: Wait>(
-        &self,
+    ghost refuses = { λ a _ r. IfSome a.handle (λ h. r ≡ Err (record { refusal = Stranger; slip = None }, h)) };
+
+    ghost keeps = { λ _ a _ r. IfSome a.handle (λ h. IfErr r (λ d. d.1 ≡ h)) };
+
+    ghost does = { λ n a _ r s t. IfSome a.handle (λ h. Closes n h r s t) };
+
+    fn on<B: Naming, R: Wait>(
+        &mut self,
         rt: &R,
-        shard: u64,
         own: &mut Seat,
-        handle: Handle,
-    ) -> Result<Slip, (Denied, Handle)>
-        requires at { (shard < 16) × (shard < B.shards) }
-        requires seat { own.old.name ≡ (B.names shard).name → own.old.table ≡ (B.names shard).table }
-        requires came { handle.cache ≡ (B.names shard).name → handle.pass.board ≡ (B.names shard).board }
-        ensures goes { Goes own.old own.new }
-        ensures foreign { own.old.name ≢ (B.names shard).name → (result ≡ Err (record { refusal = Stranger; slip = None }, handle)) × (own.new ≡ own.old) }
-        ensures call { own.old.name ≡ (B.names shard).name → Closes (B.names shard) handle result own.old own.new }
-        ensures back { IfErr result (λ d. d.1 ≡ handle) }
-    {
-        at_quarter!(
-            self,
-            shard,
-            [4, 8, 12],
-            close_handle(rt, shard, own, handle)
-        )
+        cache: &SharedCache<B, D, T>,
+    ) -> Result<Slip, (Denied, Handle)> {
+        let Some(handle) = self.handle.take() else {
+            unreachable!()
+        };
+        cache.close_handle(rt, own, handle)
     }
 }
 
@@ -279,7 +154,7 @@ impl<B: ShardNaming, D: BlockDevice, T: Trail> ShardedCache<B, D, T> {
         let Some(own) = seat.seats.get_mut(shard as usize) else {
             return Some(Err(without_slip(Refusal::Stranger)));
         };
-        Some(self.caches.create(rt, shard, own))
+        Some(self.caches.ask(rt, shard, own, &mut Create))
     }
 
     /// The answer of a shard, with the file's number among those of all shards.
@@ -350,7 +225,8 @@ impl<B: ShardNaming, D: BlockDevice, T: Trail> ShardedCache<B, D, T> {
         let Some(own) = seat.seats.get_mut(shard as usize) else {
             return Err(without_slip(Refusal::Stranger));
         };
-        in_shard(shard, self.caches.open(rt, shard, own, file, append))
+        let mut call = Open { file, append };
+        in_shard(shard, self.caches.ask(rt, shard, own, &mut call))
     }
 
     /// Closes a handle. It comes back where that is refused, as by `Busy` while a sync by it is in progress.
@@ -383,7 +259,10 @@ impl<B: ShardNaming, D: BlockDevice, T: Trail> ShardedCache<B, D, T> {
                 ShardHandle { shard, handle },
             ));
         };
-        back_in_shard(shard, self.caches.close_handle(rt, shard, own, handle))
+        let mut call = CloseHandle {
+            handle: Some(handle),
+        };
+        back_in_shard(shard, self.caches.ask(rt, shard, own, &mut call))
     }
 }
 

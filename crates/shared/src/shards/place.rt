@@ -128,8 +128,7 @@ impl<B: ShardNaming, D: BlockDevice, T: Trail, const K: u64> Place<B, D, T, K> {
     }
 }
 
-/// A call in the part that the shard of this number stands in, by the numbers at which the others begin. Reads and writes are inlined on
-/// this way, since each call on it would hand on eight arguments and copy an answer.
+/// A call in the part that the shard of this number stands in, by the numbers at which the others begin.
 macro_rules! at_quarter {
     ($self:ident, $shard:ident, [$b:expr, $c:expr, $d:expr], $call:ident($($arg:expr),*)) => {
         if $shard < $b {

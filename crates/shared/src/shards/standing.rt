@@ -1,150 +1,73 @@
 //! Where the files of a shard stand on its device.
 
-ghost use Rattle.std.specs.Prelude.{◌≡◌, ◌+◌, ◌≢◌, ◌/◌, ◌%◌, ◌<◌, ◌≤◌, Err, false, true};
+ghost use Rattle.std.specs.Prelude.{◌≡◌, ◌+◌, ◌≢◌, ◌/◌, ◌%◌, ◌<◌, ◌≤◌, ⊤, Err, false, true};
 ghost use Rattle.cachecore.specs.Standing.{SpotIs};
-ghost use Rattle.held.specs.Called.{Goes};
 ghost use Rattle.pc_types.specs.declared.refusal.Refusal.TheVariants.{NoSuchFile, Stranger};
 ghost use Rattle.shared.specs.ShardCalls.{Lists, Places};
 ghost use Rattle.shared.specs.ShardSeats.{AreSeated, OnlyAt, is_of, part};
 
 use crate::cache::SharedCache;
 use crate::shards::cache::ShardedCache;
-use crate::shards::naming::{Shard, ShardNaming};
-use crate::shards::place::{Four, Place, Sixteen, at_quarter};
+use crate::shards::call::SeatCall;
+use crate::shards::naming::ShardNaming;
 use crate::shards::seat::ShardSeat;
 use blockdev::BlockDevice;
 use cachecore::Placed;
 use catalog::Catalog;
 use held::log::Seat;
+use held::naming::Naming;
 use pc_types::{FileId, PageIndex, Refusal};
 use std::sync::Wait;
 use trail::Trail;
 
-impl<B: ShardNaming, D: BlockDevice, T: Trail, const K: u64> SharedCache<Shard<B, K>, D, T> {
-    fn block_of_in<R: Wait>(
-        &self,
+#[derive(Drop)]
+struct BlockOf {
+    file: FileId,
+    page: PageIndex,
+}
+
+impl<D: BlockDevice, T: Trail> SeatCall<D, T> for BlockOf {
+    type Answer = Result<Option<Placed>, Refusal>;
+
+    ghost owes = { λ _ _. ⊤ };
+
+    ghost refuses = { λ _ _ r. r ≡ Err Stranger };
+
+    ghost keeps = { λ _ _ _ _. ⊤ };
+
+    ghost does = { λ n a _ r s t. Places n (λ m. SpotIs m a.file.0 a.page.0 r) s t };
+
+    fn on<B: Naming, R: Wait>(
+        &mut self,
         rt: &R,
         own: &mut Seat,
-        file: FileId,
-        page: PageIndex,
-    ) -> Result<Option<Placed>, Refusal>
-        requires seat { own.old.name ≡ (B.names K).name → own.old.table ≡ (B.names K).table }
-        ensures goes { Goes own.old own.new }
-        ensures foreign { own.old.name ≢ (B.names K).name → (result ≡ Err Stranger) × (own.new ≡ own.old) }
-        ensures call { own.old.name ≡ (B.names K).name → Places (B.names K) (λ s. SpotIs s file.0 page.0 result) own.old own.new }
-    {
-        self.block_of(rt, own, file, page)
-    }
-
-    fn catalog_in<R: Wait>(&self, rt: &R, own: &mut Seat) -> Result<Catalog, Refusal>
-        requires seat { own.old.name ≡ (B.names K).name → own.old.table ≡ (B.names K).table }
-        ensures goes { Goes own.old own.new }
-        ensures foreign { own.old.name ≢ (B.names K).name → (result ≡ Err Stranger) × (own.new ≡ own.old) }
-        ensures call { own.old.name ≡ (B.names K).name → Lists (B.names K) result own.old own.new }
-    {
-        self.catalog(rt, own)
+        cache: &SharedCache<B, D, T>,
+    ) -> Result<Option<Placed>, Refusal> {
+        cache.block_of(rt, own, self.file, self.page)
     }
 }
 
-impl<B: ShardNaming, D: BlockDevice, T: Trail, const K: u64> Place<B, D, T, K> {
-    fn block_of<R: Wait>(
-        &self,
+#[derive(Drop)]
+struct ListFiles;
+
+impl<D: BlockDevice, T: Trail> SeatCall<D, T> for ListFiles {
+    type Answer = Result<Catalog, Refusal>;
+
+    ghost owes = { λ _ _. ⊤ };
+
+    ghost refuses = { λ _ _ r. r ≡ Err Stranger };
+
+    ghost keeps = { λ _ _ _ _. ⊤ };
+
+    ghost does = { λ n _ _ r s t. Lists n r s t };
+
+    fn on<B: Naming, R: Wait>(
+        &mut self,
         rt: &R,
-        shard: u64,
         own: &mut Seat,
-        file: FileId,
-        page: PageIndex,
-    ) -> Result<Option<Placed>, Refusal>
-        requires at { (K ≤ shard) × (shard < K + 1) × (shard < B.shards) }
-        requires seat { own.old.name ≡ (B.names shard).name → own.old.table ≡ (B.names shard).table }
-        ensures goes { Goes own.old own.new }
-        ensures foreign { own.old.name ≢ (B.names shard).name → (result ≡ Err Stranger) × (own.new ≡ own.old) }
-        ensures call { own.old.name ≡ (B.names shard).name → Places (B.names shard) (λ s. SpotIs s file.0 page.0 result) own.old own.new }
-    {
-        self.cache().block_of_in(rt, own, file, page)
-    }
-
-    fn catalog<R: Wait>(&self, rt: &R, shard: u64, own: &mut Seat) -> Result<Catalog, Refusal>
-        requires at { (K ≤ shard) × (shard < K + 1) × (shard < B.shards) }
-        requires seat { own.old.name ≡ (B.names shard).name → own.old.table ≡ (B.names shard).table }
-        ensures goes { Goes own.old own.new }
-        ensures foreign { own.old.name ≢ (B.names shard).name → (result ≡ Err Stranger) × (own.new ≡ own.old) }
-        ensures call { own.old.name ≡ (B.names shard).name → Lists (B.names shard) result own.old own.new }
-    {
-        self.cache().catalog_in(rt, own)
-    }
-}
-
-impl<
-    B: ShardNaming,
-    D: BlockDevice,
-    T: Trail,
-    const I: u64,
-    const J: u64,
-    const K: u64,
-    const L: u64,
-> Four<B, D, T, I, J, K, L> {
-    fn block_of<R: Wait>(
-        &self,
-        rt: &R,
-        shard: u64,
-        own: &mut Seat,
-        file: FileId,
-        page: PageIndex,
-    ) -> Result<Option<Placed>, Refusal>
-        requires whole { (J ≡ I + 1) × (K ≡ J + 1) × (L ≡ K + 1) }
-        requires at { (I ≤ shard) × (shard < L + 1) × (shard < B.shards) }
-        requires seat { own.old.name ≡ (B.names shard).name → own.old.table ≡ (B.names shard).table }
-        ensures goes { Goes own.old own.new }
-        ensures foreign { own.old.name ≢ (B.names shard).name → (result ≡ Err Stranger) × (own.new ≡ own.old) }
-        ensures call { own.old.name ≡ (B.names shard).name → Places (B.names shard) (λ s. SpotIs s file.0 page.0 result) own.old own.new }
-    {
-        at_quarter!(self, shard, [J, K, L], block_of(rt, shard, own, file, page))
-    }
-
-    fn catalog<R: Wait>(&self, rt: &R, shard: u64, own: &mut Seat) -> Result<Catalog, Refusal>
-        requires whole { (J ≡ I + 1) × (K ≡ J + 1) × (L ≡ K + 1) }
-        requires at { (I ≤ shard) × (shard < L + 1) × (shard < B.shards) }
-        requires seat { own.old.name ≡ (B.names shard).name → own.old.table ≡ (B.names shard).table }
-        ensures goes { Goes own.old own.new }
-        ensures foreign { own.old.name ≢ (B.names shard).name → (result ≡ Err Stranger) × (own.new ≡ own.old) }
-        ensures call { own.old.name ≡ (B.names shard).name → Lists (B.names shard) result own.old own.new }
-    {
-        at_quarter!(self, shard, [J, K, L], catalog(rt, shard, own))
-    }
-}
-
-impl<B: ShardNaming, D: BlockDevice, T: Trail> Sixteen<B, D, T> {
-    fn block_of<R: Wait>(
-        &self,
-        rt: &R,
-        shard: u64,
-        own: &mut Seat,
-        file: FileId,
-        page: PageIndex,
-    ) -> Result<Option<Placed>, Refusal>
-        requires at { (shard < 16) × (shard < B.shards) }
-        requires seat { own.old.name ≡ (B.names shard).name → own.old.table ≡ (B.names shard).table }
-        ensures goes { Goes own.old own.new }
-        ensures foreign { own.old.name ≢ (B.names shard).name → (result ≡ Err Stranger) × (own.new ≡ own.old) }
-        ensures call { own.old.name ≡ (B.names shard).name → Places (B.names shard) (λ s. SpotIs s file.0 page.0 result) own.old own.new }
-    {
-        at_quarter!(
-            self,
-            shard,
-            [4, 8, 12],
-            block_of(rt, shard, own, file, page)
-        )
-    }
-
-    fn catalog<R: Wait>(&self, rt: &R, shard: u64, own: &mut Seat) -> Result<Catalog, Refusal>
-        requires at { (shard < 16) × (shard < B.shards) }
-        requires seat { own.old.name ≡ (B.names shard).name → own.old.table ≡ (B.names shard).table }
-        ensures goes { Goes own.old own.new }
-        ensures foreign { own.old.name ≢ (B.names shard).name → (result ≡ Err Stranger) × (own.new ≡ own.old) }
-        ensures call { own.old.name ≡ (B.names shard).name → Lists (B.names shard) result own.old own.new }
-    {
-        at_quarter!(self, shard, [4, 8, 12], catalog(rt, shard, own))
+        cache: &SharedCache<B, D, T>,
+    ) -> Result<Catalog, Refusal> {
+        cache.catalog(rt, own)
     }
 }
 
@@ -191,7 +114,8 @@ impl<B: ShardNaming, D: BlockDevice, T: Trail> ShardedCache<B, D, T> {
         let Some(own) = seat.seats.get_mut(shard as usize) else {
             return Err(Refusal::Stranger);
         };
-        self.caches.block_of(rt, shard, own, file, page)
+        let mut call = BlockOf { file, page };
+        self.caches.ask(rt, shard, own, &mut call)
     }
 
     /// The files of a shard as they stand on its device, by the shard's own numbers: file F there is file F * n + shard here. `Stranger`
@@ -216,6 +140,6 @@ impl<B: ShardNaming, D: BlockDevice, T: Trail> ShardedCache<B, D, T> {
         let Some(own) = seat.seats.get_mut(shard as usize) else {
             return Err(Refusal::Stranger);
         };
-        self.caches.catalog(rt, shard, own)
+        self.caches.ask(rt, shard, own, &mut ListFiles)
     }
 }

@@ -1,134 +1,59 @@
 //! Fsync, of a file or of a range of its pages.
 
-ghost use Rattle.std.specs.Prelude.{◌≡◌, ◌+◌, ◌≢◌, ◌<◌, ◌≤◌, Err, None, false, true};
+ghost use Rattle.std.specs.Prelude.{◌≡◌, ◌+◌, ◌≢◌, ◌<◌, ◌≤◌, ℕ, Err, None, false, true};
 ghost use Rattle.pc_types.specs.declared.limits.TheConstants.{LAST_PAGE};
 ghost use Rattle.pc_types.specs.declared.refusal.Refusal.TheVariants.{BadHandle, Stranger};
-ghost use Rattle.held.specs.Called.{Goes};
 ghost use Rattle.shared.specs.ShardCalls.{Fsyncs};
 ghost use Rattle.shared.specs.ShardSeats.{AreSeated, OnlyAt, is_of, part};
 
 use crate::cache::SharedCache;
 use crate::handle::Handle;
 use crate::shards::cache::ShardedCache;
+use crate::shards::call::SeatCall;
 pub use crate::shards::durable::ShardDurable;
 use crate::shards::handle::ShardHandle;
-use crate::shards::naming::{Shard, ShardNaming};
-use crate::shards::place::{Four, Place, Sixteen, at_quarter};
+use crate::shards::naming::ShardNaming;
 use crate::shards::seat::ShardSeat;
 use blockdev::BlockDevice;
 use held::denied::{Denied, without_slip};
 use held::log::Seat;
+use held::naming::Naming;
 use pc_types::limits::LAST_PAGE;
 use pc_types::{PageIndex, Refusal};
+use std::marker::PhantomData;
 use std::sync::Wait;
 use trail::Trail;
 
-impl<B: ShardNaming, D: BlockDevice, T: Trail, const K: u64> SharedCache<Shard<B, K>, D, T> {
-    fn fsync_range_in<R: Wait>(
-        &self,
+#[derive(Drop)]
+struct FsyncRange<'h, B> {
+    handle: &'h mut Handle,
+    first: PageIndex,
+    last: PageIndex,
+    // which shards
+    of: PhantomData<B>,
+}
+
+impl<'h, B: ShardNaming, D: BlockDevice, T: Trail> SeatCall<D, T> for FsyncRange<'h, B> {
+    type Answer = Result<ShardDurable<B, D>, Denied>;
+
+    ghost owes = { λ n a. ((k : ℕ) × (k < B.shards) × (n.name ≡ (B.names k).name)) × (a.handle.now.cache ≡ n.name → a.handle.now.pass.board ≡ n.board) };
+
+    ghost refuses = { λ a b r. (r ≡ Err (record { refusal = Stranger; slip = None })) × (b.handle.now ≡ a.handle.now) };
+
+    ghost keeps = { λ _ a b _. (b.handle.ghost_name ≡ a.handle.ghost_name) × (b.handle.now ≡ record a.handle.now { pass = b.handle.now.pass }) × (b.handle.now.pass.board ≡ a.handle.now.pass.board) };
+
+    ghost does = { λ n a b r s t. Fsyncs n a.first a.last a.handle.now b.handle.now r s t };
+
+    fn on<N: Naming, R: Wait>(
+        &mut self,
         rt: &R,
         own: &mut Seat,
-        handle: &mut Handle,
-        first: PageIndex,
-        last: PageIndex,
-    ) -> Result<ShardDurable<B, D>, Denied>
-        requires there { K < B.shards }
-        requires seat { own.old.name ≡ (B.names K).name → own.old.table ≡ (B.names K).table }
-        requires came { handle.old.cache ≡ (B.names K).name → handle.old.pass.board ≡ (B.names K).board }
-        ensures goes { Goes own.old own.new }
-        ensures foreign { own.old.name ≢ (B.names K).name → (result ≡ Err (record { refusal = Stranger; slip = None })) × (own.new ≡ own.old) × (handle.new ≡ handle.old) }
-        ensures same { (handle.new ≡ record handle.old { pass = handle.new.pass }) × (handle.new.pass.board ≡ handle.old.pass.board) }
-        ensures call { own.old.name ≡ (B.names K).name → Fsyncs (B.names K) first last handle.old handle.new result own.old own.new }
-    {
-        match self.fsync_range(rt, own, handle, first, last) {
+        cache: &SharedCache<N, D, T>,
+    ) -> Result<ShardDurable<B, D>, Denied> {
+        match cache.fsync_range(rt, own, self.handle, self.first, self.last) {
             Ok(durable) => Ok(ShardDurable::of(durable)),
             Err(denied) => Err(denied),
         }
-    }
-}
-
-impl<B: ShardNaming, D: BlockDevice, T: Trail, const K: u64> Place<B, D, T, K> {
-    fn fsync_range<R: Wait>(
-        &self,
-        rt: &R,
-        shard: u64,
-        own: &mut Seat,
-        handle: &mut Handle,
-        first: PageIndex,
-        last: PageIndex,
-    ) -> Result<ShardDurable<B, D>, Denied>
-        requires at { (K ≤ shard) × (shard < K + 1) × (shard < B.shards) }
-        requires seat { own.old.name ≡ (B.names shard).name → own.old.table ≡ (B.names shard).table }
-        requires came { handle.old.cache ≡ (B.names shard).name → handle.old.pass.board ≡ (B.names shard).board }
-        ensures goes { Goes own.old own.new }
-        ensures foreign { own.old.name ≢ (B.names shard).name → (result ≡ Err (record { refusal = Stranger; slip = None })) × (own.new ≡ own.old) × (handle.new ≡ handle.old) }
-        ensures same { (handle.new ≡ record handle.old { pass = handle.new.pass }) × (handle.new.pass.board ≡ handle.old.pass.board) }
-        ensures call { own.old.name ≡ (B.names shard).name → Fsyncs (B.names shard) first last handle.old handle.new result own.old own.new }
-    {
-        self.cache().fsync_range_in(rt, own, handle, first, last)
-    }
-}
-
-impl<
-    B: ShardNaming,
-    D: BlockDevice,
-    T: Trail,
-    const I: u64,
-    const J: u64,
-    const K: u64,
-    const L: u64,
-> Four<B, D, T, I, J, K, L> {
-    fn fsync_range<R: Wait>(
-        &self,
-        rt: &R,
-        shard: u64,
-        own: &mut Seat,
-        handle: &mut Handle,
-        first: PageIndex,
-        last: PageIndex,
-    ) -> Result<ShardDurable<B, D>, Denied>
-        requires whole { (J ≡ I + 1) × (K ≡ J + 1) × (L ≡ K + 1) }
-        requires at { (I ≤ shard) × (shard < L + 1) × (shard < B.shards) }
-        requires seat { own.old.name ≡ (B.names shard).name → own.old.table ≡ (B.names shard).table }
-        requires came { handle.old.cache ≡ (B.names shard).name → handle.old.pass.board ≡ (B.names shard).board }
-        ensures goes { Goes own.old own.new }
-        ensures foreign { own.old.name ≢ (B.names shard).name → (result ≡ Err (record { refusal = Stranger; slip = None })) × (own.new ≡ own.old) × (handle.new ≡ handle.old) }
-        ensures same { (handle.new ≡ record handle.old { pass = handle.new.pass }) × (handle.new.pass.board ≡ handle.old.pass.board) }
-        ensures call { own.old.name ≡ (B.names shard).name → Fsyncs (B.names shard) first last handle.old handle.new result own.old own.new }
-    {
-        at_quarter!(
-            self,
-            shard,
-            [J, K, L],
-            fsync_range(rt, shard, own, handle, first, last)
-        )
-    }
-}
-
-impl<B: ShardNaming, D: BlockDevice, T: Trail> Sixteen<B, D, T> {
-    fn fsync_range<R: Wait>(
-        &self,
-        rt: &R,
-        shard: u64,
-        own: &mut Seat,
-        handle: &mut Handle,
-        first: PageIndex,
-        last: PageIndex,
-    ) -> Result<ShardDurable<B, D>, Denied>
-        requires at { (shard < 16) × (shard < B.shards) }
-        requires seat { own.old.name ≡ (B.names shard).name → own.old.table ≡ (B.names shard).table }
-        requires came { handle.old.cache ≡ (B.names shard).name → handle.old.pass.board ≡ (B.names shard).board }
-        ensures goes { Goes own.old own.new }
-        ensures foreign { own.old.name ≢ (B.names shard).name → (result ≡ Err (record { refusal = Stranger; slip = None })) × (own.new ≡ own.old) × (handle.new ≡ handle.old) }
-        ensures same { (handle.new ≡ record handle.old { pass = handle.new.pass }) × (handle.new.pass.board ≡ handle.old.pass.board) }
-        ensures call { own.old.name ≡ (B.names shard).name → Fsyncs (B.names shard) first last handle.old handle.new result own.old own.new }
-    {
-        at_quarter!(
-            self,
-            shard,
-            [4, 8, 12],
-            fsync_range(rt, shard, own, handle, first, last)
-        )
     }
 }
 
@@ -180,7 +105,12 @@ impl<B: ShardNaming, D: BlockDevice, T: Trail> ShardedCache<B, D, T> {
         let Some(own) = seat.seats.get_mut(handle.shard as usize) else {
             return Err(without_slip(Refusal::Stranger));
         };
-        self.caches
-            .fsync_range(rt, handle.shard, own, &mut handle.handle, first, last)
+        let mut call = FsyncRange {
+            handle: &mut handle.handle,
+            first,
+            last,
+            of: PhantomData::<B>,
+        };
+        self.caches.ask(rt, handle.shard, own, &mut call)
     }
 }

@@ -1,81 +1,128 @@
 //! Workers' turns and loops, in a shard.
 
-ghost use Rattle.std.specs.Prelude.{◌≡◌, ◌+◌, ◌<◌, ◌≤◌, Some, length, map};
+ghost use Rattle.std.specs.Prelude.{◌≡◌, ◌<◌, length, map};
 ghost use Rattle.shared.specs.ShardSeats.{AreSeated};
-ghost use Rattle.shared.specs.ShardWorkers.{AreWorkers, IsWorkerAt, WorksAt};
+ghost use Rattle.shared.specs.ShardWorkers.{AreWorkers, WorksAt};
 ghost use Rattle.shared.specs.ShardWorks.{EndsAll, EndsOne, LetsPages, LetsSome, WritesBack, WritesOne};
 ghost use Rattle.shared.specs.Workers.{seat_of};
 
 use crate::cache::SharedCache;
 use crate::ends::Done;
 use crate::shards::cache::ShardedCache;
-use crate::shards::naming::{Shard, ShardNaming};
-use crate::shards::place::{Four, Place, Sixteen, at_quarter};
+use crate::shards::call::WorkerCall;
+use crate::shards::naming::ShardNaming;
+use crate::shards::place::{Four, Place, Sixteen};
 use crate::shards::worker::ShardWorker;
 use crate::turns::Flushed;
 use crate::worker::Worker;
 use blockdev::{BlockDevice, Gate};
 use held::denied::Denied;
+use held::naming::Naming;
 use std::sync::Wait;
 use trail::Trail;
 
-impl<B: ShardNaming, D: BlockDevice, T: Trail, const K: u64> SharedCache<Shard<B, K>, D, T> {
-    fn io_turn_in<R: Wait, G: Gate>(&self, rt: &R, gate: &G, worker: &mut Worker) -> Option<Done>
-        requires ring { (B.names K).ring ≡ Some self.now.ring }
-        requires worker { IsWorkerAt (B.names K) worker.old }
-        ensures turn { EndsOne (B.names K) (G.passed gate.now) result worker.old worker.new }
-    {
-        self.io_turn(rt, gate, worker)
-    }
+#[derive(Drop)]
+struct IoTurn<'g, G> {
+    gate: &'g G,
+}
 
-    fn flusher_turn_in<R: Wait, G: Gate>(
+impl<'g, G: Gate, D: BlockDevice, T: Trail> WorkerCall<D, T> for IoTurn<'g, G> {
+    type Answer = Option<Done>;
+
+    ghost does = { λ n a r s t. EndsOne n (G.passed a.gate.now) r s t };
+
+    fn on<B: Naming, R: Wait>(
         &self,
         rt: &R,
-        gate: &G,
         worker: &mut Worker,
-    ) -> Result<Flushed, Denied>
-        requires ring { (B.names K).ring ≡ Some self.now.ring }
-        requires worker { IsWorkerAt (B.names K) worker.old }
-        ensures turn { WritesOne (B.names K) (G.passed gate.now) result worker.old worker.new }
-    {
-        self.flusher_turn(rt, gate, worker)
+        cache: &SharedCache<B, D, T>,
+    ) -> Option<Done> {
+        cache.io_turn(rt, self.gate, worker)
     }
+}
 
-    fn evictor_turn_in<R: Wait, G: Gate>(
+#[derive(Drop)]
+struct FlusherTurn<'g, G> {
+    gate: &'g G,
+}
+
+impl<'g, G: Gate, D: BlockDevice, T: Trail> WorkerCall<D, T> for FlusherTurn<'g, G> {
+    type Answer = Result<Flushed, Denied>;
+
+    ghost does = { λ n a r s t. WritesOne n (G.passed a.gate.now) r s t };
+
+    fn on<B: Naming, R: Wait>(
         &self,
         rt: &R,
-        gate: &G,
         worker: &mut Worker,
-    ) -> Result<u64, Denied>
-        requires ring { (B.names K).ring ≡ Some self.now.ring }
-        requires worker { IsWorkerAt (B.names K) worker.old }
-        ensures turn { LetsSome (B.names K) (G.passed gate.now) result worker.old worker.new }
-    {
-        self.evictor_turn(rt, gate, worker)
+        cache: &SharedCache<B, D, T>,
+    ) -> Result<Flushed, Denied> {
+        cache.flusher_turn(rt, self.gate, worker)
     }
+}
 
-    fn io_worker_in<R: Wait, G: Gate>(&self, rt: &R, gate: &G, worker: &mut Worker)
-        requires ring { (B.names K).ring ≡ Some self.now.ring }
-        requires worker { IsWorkerAt (B.names K) worker.old }
-        ensures turn { EndsAll (B.names K) worker.old worker.new }
-    {
-        self.io_worker(rt, gate, worker)
+#[derive(Drop)]
+struct EvictorTurn<'g, G> {
+    gate: &'g G,
+}
+
+impl<'g, G: Gate, D: BlockDevice, T: Trail> WorkerCall<D, T> for EvictorTurn<'g, G> {
+    type Answer = Result<u64, Denied>;
+
+    ghost does = { λ n a r s t. LetsSome n (G.passed a.gate.now) r s t };
+
+    fn on<B: Naming, R: Wait>(
+        &self,
+        rt: &R,
+        worker: &mut Worker,
+        cache: &SharedCache<B, D, T>,
+    ) -> Result<u64, Denied> {
+        cache.evictor_turn(rt, self.gate, worker)
     }
+}
 
-    fn flusher_in<R: Wait, G: Gate>(&self, rt: &R, gate: &G, worker: &mut Worker)
-        requires ring { (B.names K).ring ≡ Some self.now.ring }
-        requires worker { IsWorkerAt (B.names K) worker.old }
-        ensures turn { WritesBack (B.names K) worker.old worker.new }
-    {
-        self.flusher(rt, gate, worker)
+#[derive(Drop)]
+struct IoWorker<'g, G> {
+    gate: &'g G,
+}
+
+impl<'g, G: Gate, D: BlockDevice, T: Trail> WorkerCall<D, T> for IoWorker<'g, G> {
+    type Answer = ();
+
+    ghost does = { λ n _ _ s t. EndsAll n s t };
+
+    fn on<B: Naming, R: Wait>(&self, rt: &R, worker: &mut Worker, cache: &SharedCache<B, D, T>) {
+        cache.io_worker(rt, self.gate, worker)
     }
+}
 
-    fn evictor_in<R: Wait, G: Gate>(&self, rt: &R, gate: &G, worker: &mut Worker)
-        requires ring { (B.names K).ring ≡ Some self.now.ring }
-        requires worker { IsWorkerAt (B.names K) worker.old }
-        ensures turn { LetsPages (B.names K) worker.old worker.new }
-    {
-        self.evictor(rt, gate, worker)
+#[derive(Drop)]
+struct Flusher<'g, G> {
+    gate: &'g G,
+}
+
+impl<'g, G: Gate, D: BlockDevice, T: Trail> WorkerCall<D, T> for Flusher<'g, G> {
+    type Answer = ();
+
+    ghost does = { λ n _ _ s t. WritesBack n s t };
+
+    fn on<B: Naming, R: Wait>(&self, rt: &R, worker: &mut Worker, cache: &SharedCache<B, D, T>) {
+        cache.flusher(rt, self.gate, worker)
+    }
+}
+
+#[derive(Drop)]
+struct Evictor<'g, G> {
+    gate: &'g G,
+}
+
+impl<'g, G: Gate, D: BlockDevice, T: Trail> WorkerCall<D, T> for Evictor<'g, G> {
+    type Answer = ();
+
+    ghost does = { λ n _ _ s t. LetsPages n s t };
+
+    fn on<B: Naming, R: Wait>(&self, rt: &R, worker: &mut Worker, cache: &SharedCache<B, D, T>) {
+        cache.evictor(rt, self.gate, worker)
     }
 }
 
@@ -85,72 +132,6 @@ impl<B: ShardNaming, D: BlockDevice, T: Trail, const K: u64> Place<B, D, T, K> {
         if let Some(cache) = self.caches.first() {
             cache.stop(rt);
         }
-    }
-
-    fn io_turn<R: Wait, G: Gate>(
-        &self,
-        rt: &R,
-        shard: u64,
-        gate: &G,
-        worker: &mut Worker,
-    ) -> Option<Done>
-        requires at { (K ≤ shard) × (shard < K + 1) × (shard < B.shards) }
-        requires worker { IsWorkerAt (B.names shard) worker.old }
-        ensures turn { EndsOne (B.names shard) (G.passed gate.now) result worker.old worker.new }
-    {
-        self.cache().io_turn_in(rt, gate, worker)
-    }
-
-    fn flusher_turn<R: Wait, G: Gate>(
-        &self,
-        rt: &R,
-        shard: u64,
-        gate: &G,
-        worker: &mut Worker,
-    ) -> Result<Flushed, Denied>
-        requires at { (K ≤ shard) × (shard < K + 1) × (shard < B.shards) }
-        requires worker { IsWorkerAt (B.names shard) worker.old }
-        ensures turn { WritesOne (B.names shard) (G.passed gate.now) result worker.old worker.new }
-    {
-        self.cache().flusher_turn_in(rt, gate, worker)
-    }
-
-    fn evictor_turn<R: Wait, G: Gate>(
-        &self,
-        rt: &R,
-        shard: u64,
-        gate: &G,
-        worker: &mut Worker,
-    ) -> Result<u64, Denied>
-        requires at { (K ≤ shard) × (shard < K + 1) × (shard < B.shards) }
-        requires worker { IsWorkerAt (B.names shard) worker.old }
-        ensures turn { LetsSome (B.names shard) (G.passed gate.now) result worker.old worker.new }
-    {
-        self.cache().evictor_turn_in(rt, gate, worker)
-    }
-
-    fn io_worker<R: Wait, G: Gate>(&self, rt: &R, shard: u64, gate: &G, worker: &mut Worker)
-        requires at { (K ≤ shard) × (shard < K + 1) × (shard < B.shards) }
-        requires worker { IsWorkerAt (B.names shard) worker.old }
-        ensures turn { EndsAll (B.names shard) worker.old worker.new }
-    {
-        self.cache().io_worker_in(rt, gate, worker)
-    }
-
-    fn flusher<R: Wait, G: Gate>(&self, rt: &R, shard: u64, gate: &G, worker: &mut Worker)
-        requires at { (K ≤ shard) × (shard < K + 1) × (shard < B.shards) }
-        requires worker { IsWorkerAt (B.names shard) worker.old }
-        ensures turn { WritesBack (B.names shard) worker.old worker.new }
-    {
-        self.cache().flusher_in(rt, gate, worker)
-    }
-
-    fn evictor<R: Wait, G: Gate>(&self, rt: &R, shard: u64, gate: &G, worker: &mut Worker)
-        requires at { (K ≤ shard) × (shard < K + 1) × (shard < B.shards) }
-        requires worker { IsWorkerAt (B.names shard) worker.old }
-        ensures turn { LetsPages (B.names shard) worker.old worker.new }
-    {
-        self.cache().evictor_in(rt, gate, worker)
     }
 }
 
@@ -170,88 +151,6 @@ impl<
         self.part_2.stop(rt);
         self.part_3.stop(rt);
     }
-
-    fn io_turn<R: Wait, G: Gate>(
-        &self,
-        rt: &R,
-        shard: u64,
-        gate: &G,
-        worker: &mut Worker,
-    ) -> Option<Done>
-        requires whole { (J ≡ I + 1) × (K ≡ J + 1) × (L ≡ K + 1) }
-        requires at { (I ≤ shard) × (shard < L + 1) × (shard < B.shards) }
-        requires worker { IsWorkerAt (B.names shard) worker.old }
-        ensures turn { EndsOne (B.names shard) (G.passed gate.now) result worker.old worker.new }
-    {
-        at_quarter!(self, shard, [J, K, L], io_turn(rt, shard, gate, worker))
-    }
-
-    fn flusher_turn<R: Wait, G: Gate>(
-        &self,
-        rt: &R,
-        shard: u64,
-        gate: &G,
-        worker: &mut Worker,
-    ) -> Result<Flushed, Denied>
-        requires whole { (J ≡ I + 1) × (K ≡ J + 1) × (L ≡ K + 1) }
-        requires at { (I ≤ shard) × (shard < L + 1) × (shard < B.shards) }
-        requires worker { IsWorkerAt (B.names shard) worker.old }
-        ensures turn { WritesOne (B.names shard) (G.passed gate.now) result worker.old worker.new }
-    {
-        at_quarter!(
-            self,
-            shard,
-            [J, K, L],
-            flusher_turn(rt, shard, gate, worker)
-        )
-    }
-
-    fn evictor_turn<R: Wait, G: Gate>(
-        &self,
-        rt: &R,
-        shard: u64,
-        gate: &G,
-        worker: &mut Worker,
-    ) -> Result<u64, Denied>
-        requires whole { (J ≡ I + 1) × (K ≡ J + 1) × (L ≡ K + 1) }
-        requires at { (I ≤ shard) × (shard < L + 1) × (shard < B.shards) }
-        requires worker { IsWorkerAt (B.names shard) worker.old }
-        ensures turn { LetsSome (B.names shard) (G.passed gate.now) result worker.old worker.new }
-    {
-        at_quarter!(
-            self,
-            shard,
-            [J, K, L],
-            evictor_turn(rt, shard, gate, worker)
-        )
-    }
-
-    fn io_worker<R: Wait, G: Gate>(&self, rt: &R, shard: u64, gate: &G, worker: &mut Worker)
-        requires whole { (J ≡ I + 1) × (K ≡ J + 1) × (L ≡ K + 1) }
-        requires at { (I ≤ shard) × (shard < L + 1) × (shard < B.shards) }
-        requires worker { IsWorkerAt (B.names shard) worker.old }
-        ensures turn { EndsAll (B.names shard) worker.old worker.new }
-    {
-        at_quarter!(self, shard, [J, K, L], io_worker(rt, shard, gate, worker))
-    }
-
-    fn flusher<R: Wait, G: Gate>(&self, rt: &R, shard: u64, gate: &G, worker: &mut Worker)
-        requires whole { (J ≡ I + 1) × (K ≡ J + 1) × (L ≡ K + 1) }
-        requires at { (I ≤ shard) × (shard < L + 1) × (shard < B.shards) }
-        requires worker { IsWorkerAt (B.names shard) worker.old }
-        ensures turn { WritesBack (B.names shard) worker.old worker.new }
-    {
-        at_quarter!(self, shard, [J, K, L], flusher(rt, shard, gate, worker))
-    }
-
-    fn evictor<R: Wait, G: Gate>(&self, rt: &R, shard: u64, gate: &G, worker: &mut Worker)
-        requires whole { (J ≡ I + 1) × (K ≡ J + 1) × (L ≡ K + 1) }
-        requires at { (I ≤ shard) × (shard < L + 1) × (shard < B.shards) }
-        requires worker { IsWorkerAt (B.names shard) worker.old }
-        ensures turn { LetsPages (B.names shard) worker.old worker.new }
-    {
-        at_quarter!(self, shard, [J, K, L], evictor(rt, shard, gate, worker))
-    }
 }
 
 impl<B: ShardNaming, D: BlockDevice, T: Trail> Sixteen<B, D, T> {
@@ -261,82 +160,6 @@ impl<B: ShardNaming, D: BlockDevice, T: Trail> Sixteen<B, D, T> {
         self.part_1.stop(rt);
         self.part_2.stop(rt);
         self.part_3.stop(rt);
-    }
-
-    fn io_turn<R: Wait, G: Gate>(
-        &self,
-        rt: &R,
-        shard: u64,
-        gate: &G,
-        worker: &mut Worker,
-    ) -> Option<Done>
-        requires at { (shard < 16) × (shard < B.shards) }
-        requires worker { IsWorkerAt (B.names shard) worker.old }
-        ensures turn { EndsOne (B.names shard) (G.passed gate.now) result worker.old worker.new }
-    {
-        at_quarter!(self, shard, [4, 8, 12], io_turn(rt, shard, gate, worker))
-    }
-
-    fn flusher_turn<R: Wait, G: Gate>(
-        &self,
-        rt: &R,
-        shard: u64,
-        gate: &G,
-        worker: &mut Worker,
-    ) -> Result<Flushed, Denied>
-        requires at { (shard < 16) × (shard < B.shards) }
-        requires worker { IsWorkerAt (B.names shard) worker.old }
-        ensures turn { WritesOne (B.names shard) (G.passed gate.now) result worker.old worker.new }
-    {
-        at_quarter!(
-            self,
-            shard,
-            [4, 8, 12],
-            flusher_turn(rt, shard, gate, worker)
-        )
-    }
-
-    fn evictor_turn<R: Wait, G: Gate>(
-        &self,
-        rt: &R,
-        shard: u64,
-        gate: &G,
-        worker: &mut Worker,
-    ) -> Result<u64, Denied>
-        requires at { (shard < 16) × (shard < B.shards) }
-        requires worker { IsWorkerAt (B.names shard) worker.old }
-        ensures turn { LetsSome (B.names shard) (G.passed gate.now) result worker.old worker.new }
-    {
-        at_quarter!(
-            self,
-            shard,
-            [4, 8, 12],
-            evictor_turn(rt, shard, gate, worker)
-        )
-    }
-
-    fn io_worker<R: Wait, G: Gate>(&self, rt: &R, shard: u64, gate: &G, worker: &mut Worker)
-        requires at { (shard < 16) × (shard < B.shards) }
-        requires worker { IsWorkerAt (B.names shard) worker.old }
-        ensures turn { EndsAll (B.names shard) worker.old worker.new }
-    {
-        at_quarter!(self, shard, [4, 8, 12], io_worker(rt, shard, gate, worker))
-    }
-
-    fn flusher<R: Wait, G: Gate>(&self, rt: &R, shard: u64, gate: &G, worker: &mut Worker)
-        requires at { (shard < 16) × (shard < B.shards) }
-        requires worker { IsWorkerAt (B.names shard) worker.old }
-        ensures turn { WritesBack (B.names shard) worker.old worker.new }
-    {
-        at_quarter!(self, shard, [4, 8, 12], flusher(rt, shard, gate, worker))
-    }
-
-    fn evictor<R: Wait, G: Gate>(&self, rt: &R, shard: u64, gate: &G, worker: &mut Worker)
-        requires at { (shard < 16) × (shard < B.shards) }
-        requires worker { IsWorkerAt (B.names shard) worker.old }
-        ensures turn { LetsPages (B.names shard) worker.old worker.new }
-    {
-        at_quarter!(self, shard, [4, 8, 12], evictor(rt, shard, gate, worker))
     }
 }
 
@@ -360,7 +183,7 @@ impl<B: ShardNaming, D: BlockDevice, T: Trail> ShardedCache<B, D, T> {
         let Some(own) = worker.workers.get_mut(shard as usize) else {
             unreachable!()
         };
-        self.caches.io_turn(rt, shard, gate, own)
+        self.caches.work(rt, shard, own, &IoTurn { gate })
     }
 
     /// One turn of a flusher of a shard: it begins to write the lowest page of the first file that has one to write, and puts the job into
@@ -383,7 +206,7 @@ impl<B: ShardNaming, D: BlockDevice, T: Trail> ShardedCache<B, D, T> {
         let Some(own) = worker.workers.get_mut(shard as usize) else {
             unreachable!()
         };
-        self.caches.flusher_turn(rt, shard, gate, own)
+        self.caches.work(rt, shard, own, &FlusherTurn { gate })
     }
 
     /// One turn of an evictor of a shard: while few frames are free, pages of the active list age and the first idle page goes. It ends
@@ -406,7 +229,7 @@ impl<B: ShardNaming, D: BlockDevice, T: Trail> ShardedCache<B, D, T> {
         let Some(own) = worker.workers.get_mut(shard as usize) else {
             unreachable!()
         };
-        self.caches.evictor_turn(rt, shard, gate, own)
+        self.caches.work(rt, shard, own, &EvictorTurn { gate })
     }
 
     /// Carries out the jobs of a shard's ring, and sleeps where there are none. Told to stop, it goes on till no flusher of the shard is in
@@ -428,7 +251,7 @@ impl<B: ShardNaming, D: BlockDevice, T: Trail> ShardedCache<B, D, T> {
         let Some(own) = worker.workers.get_mut(shard as usize) else {
             unreachable!()
         };
-        self.caches.io_worker(rt, shard, gate, own)
+        self.caches.work(rt, shard, own, &IoWorker { gate })
     }
 
     /// Writes pages of a shard back while there are any to write, and sleeps where there are none, until it is told to stop.
@@ -443,7 +266,7 @@ impl<B: ShardNaming, D: BlockDevice, T: Trail> ShardedCache<B, D, T> {
         let Some(own) = worker.workers.get_mut(shard as usize) else {
             unreachable!()
         };
-        self.caches.flusher(rt, shard, gate, own)
+        self.caches.work(rt, shard, own, &Flusher { gate })
     }
 
     /// Lets pages of a shard go while few frames are free, and sleeps where enough are, until it is told to stop.
@@ -458,7 +281,7 @@ impl<B: ShardNaming, D: BlockDevice, T: Trail> ShardedCache<B, D, T> {
         let Some(own) = worker.workers.get_mut(shard as usize) else {
             unreachable!()
         };
-        self.caches.evictor(rt, shard, gate, own)
+        self.caches.work(rt, shard, own, &Evictor { gate })
     }
 
     /// Tells the workers of all shards to stop. It waits for none of them.

@@ -6,14 +6,14 @@ use Rattle.shared.proofs.shards.cache.ShardedCache.create_at.Goals as goal
 pub returns-clause-foreign : goal.returns-clause-foreign
 returns-clause-foreign g c = λ not.
     let other = not_named (g.B.ShardNaming.names c.args.shard).name c.args.seat.now c.seat.inside.seats.items c.args.shard c.in-Some.own.now c.seat.view_is (search rules) c.in-Some.ensures.value not in
-    let f = c.create.ensures.foreign other in (f.0, stayed c.args.seat.now c.seat.inside.seats.items c.args.shard c.in-Some.own.now c.create.new.own c.seat.view_is c.in-Some.ensures.value f.1)
+    let f = c.ask.ensures.foreign other in (f.0, stayed c.args.seat.now c.seat.inside.seats.items c.args.shard c.in-Some.own.now c.ask.new.own c.seat.view_is c.in-Some.ensures.value f.1)
 
 pub returns-clause-seated : goal.returns-clause-seated
 returns-clause-seated g c =
-    seated_after g.B.ShardNaming.names c.args.seat.now c.seat.inside.seats.items c.args.shard c.in-Some.own.now c.create.new.own c.seat.view_is (search rules) c.in-Some.ensures.value c.requires.seat
-    c.create.ensures.goes
+    seated_after g.B.ShardNaming.names c.args.seat.now c.seat.inside.seats.items c.args.shard c.in-Some.own.now c.ask.new.own c.seat.view_is (search rules) c.in-Some.ensures.value c.requires.seat
+    c.ask.ensures.goes
 
 pub returns-clause-call : goal.returns-clause-call
 returns-clause-call g c = called
-    (Creates (g.B.ShardNaming.names c.args.shard) c.create.result)
-    (g.B.ShardNaming.names c.args.shard).name c.args.seat.now c.seat.inside.seats.items c.args.shard c.in-Some.own.now c.create.new.own c.seat.view_is (search rules) c.in-Some.ensures.value c.create.ensures.call
+    (Creates (g.B.ShardNaming.names c.args.shard) c.ask.result)
+    (g.B.ShardNaming.names c.args.shard).name c.args.seat.now c.seat.inside.seats.items c.args.shard c.in-Some.own.now c.ask.new.own c.seat.view_is (search rules) c.in-Some.ensures.value c.ask.ensures.call

@@ -3,8 +3,8 @@ use Rattle.shared.specs.ShardWorks.{EndsAll}
 use Rattle.shared.proofs.ShardWorking.{given_back, lent, seated_working, worked}
 use Rattle.shared.proofs.shards.cache.ShardedCache.io_worker.Goals as goal
 
-pub io_worker-requires : goal.io_worker-requires
-io_worker-requires g c = record {
+pub work-requires : goal.work-requires
+work-requires g c = record {
   at = (omega (arith, c.requires.there.0, c.args.self.now.counted, c.args.self.now.few), c.requires.there.0);
   worker = lent g.B.ShardNaming.names c.args.worker.now c.worker.inside.workers.items c.args.shard c.in-Some.own.now c.worker.view_is
       (search rules) c.in-Some.ensures.value c.requires.workers;
@@ -13,14 +13,14 @@ io_worker-requires g c = record {
 pub returns-clause-turn : goal.returns-clause-turn
 returns-clause-turn g c =
     worked (EndsAll (g.B.ShardNaming.names c.args.shard)) c.args.worker.now c.worker.inside.workers.items c.args.shard
-    c.in-Some.own.now c.io_worker.new.worker c.worker.view_is (search rules) c.in-Some.ensures.value c.io_worker.ensures.turn
+    c.in-Some.own.now c.work.new.worker c.worker.view_is (search rules) c.in-Some.ensures.value c.work.ensures.turn
 
 pub returns-clause-workers : goal.returns-clause-workers
 returns-clause-workers g c =
-    given_back g.B.ShardNaming.names c.args.worker.now c.worker.inside.workers.items c.args.shard c.io_worker.new.worker c.worker.view_is
-    (search rules) c.requires.workers c.io_worker.ensures.turn.worker
+    given_back g.B.ShardNaming.names c.args.worker.now c.worker.inside.workers.items c.args.shard c.work.new.worker c.worker.view_is
+    (search rules) c.requires.workers c.work.ensures.turn.worker
 
 pub returns-clause-seated : goal.returns-clause-seated
 returns-clause-seated g c =
-    seated_working g.B.ShardNaming.names c.args.worker.now c.worker.inside.workers.items c.args.shard c.in-Some.own.now c.io_worker.new.worker
-    c.worker.view_is (search rules) c.in-Some.ensures.value c.io_worker.ensures.turn.goes
+    seated_working g.B.ShardNaming.names c.args.worker.now c.worker.inside.workers.items c.args.shard c.in-Some.own.now c.work.new.worker
+    c.worker.view_is (search rules) c.in-Some.ensures.value c.work.ensures.turn.goes

@@ -6,14 +6,15 @@ use Rattle.shared.proofs.shards.cache.ShardedCache.pread.Goals as goal
 pub returns-clause-foreign : goal.returns-clause-foreign
 returns-clause-foreign g c = λ there not.
     let other = not_named (g.B.ShardNaming.names c.args.handle.now.shard).name c.args.seat.now c.seat.inside.seats.items c.args.handle.now.shard c.in-Some.own.now c.seat.view_is (search rules) c.in-Some.ensures.value not in
-    let f = c.pread.ensures.foreign other in (f.0, stayed c.args.seat.now c.seat.inside.seats.items c.args.handle.now.shard c.in-Some.own.now c.pread.new.own c.seat.view_is c.in-Some.ensures.value f.1, f.2)
+    let f = c.ask.ensures.foreign other in (f.0.0, stayed c.args.seat.now c.seat.inside.seats.items c.args.handle.now.shard c.in-Some.own.now c.ask.new.own c.seat.view_is c.in-Some.ensures.value f.1, let same = f.0.1 in search rules)
 
 pub returns-clause-seated : goal.returns-clause-seated
 returns-clause-seated g c =
-    seated_after g.B.ShardNaming.names c.args.seat.now c.seat.inside.seats.items c.args.handle.now.shard c.in-Some.own.now c.pread.new.own c.seat.view_is (search rules) c.in-Some.ensures.value c.requires.seat
-    c.pread.ensures.goes
+    seated_after g.B.ShardNaming.names c.args.seat.now c.seat.inside.seats.items c.args.handle.now.shard c.in-Some.own.now c.ask.new.own c.seat.view_is (search rules) c.in-Some.ensures.value c.requires.seat
+    c.ask.ensures.goes
 
+-- what the call left in `out` is what the caller finds there
 pub returns-clause-call : goal.returns-clause-call
-returns-clause-call g c = λ there. called
-    (Reads (g.B.ShardNaming.names c.args.handle.now.shard) c.args.handle.now.handle c.args.offset c.args.out.now c.pread.new.out c.pread.result)
-    (g.B.ShardNaming.names c.args.handle.now.shard).name c.args.seat.now c.seat.inside.seats.items c.args.handle.now.shard c.in-Some.own.now c.pread.new.own c.seat.view_is (search rules) c.in-Some.ensures.value c.pread.ensures.call
+returns-clause-call g c = λ there of. let made = called
+    (Reads (g.B.ShardNaming.names c.args.handle.now.shard) c.args.handle.now.handle c.args.offset c.args.out.now c.ask.new.call.out.now c.ask.result)
+    (g.B.ShardNaming.names c.args.handle.now.shard).name c.args.seat.now c.seat.inside.seats.items c.args.handle.now.shard c.in-Some.own.now c.ask.new.own c.seat.view_is (search rules) c.in-Some.ensures.value c.ask.ensures.call of in search rules

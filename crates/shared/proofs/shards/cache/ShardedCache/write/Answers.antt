@@ -6,14 +6,14 @@ use Rattle.shared.proofs.shards.cache.ShardedCache.write.Goals as goal
 pub returns-clause-foreign : goal.returns-clause-foreign
 returns-clause-foreign g c = λ there not.
     let other = not_named (g.B.ShardNaming.names c.args.handle.now.shard).name c.args.seat.now c.seat.inside.seats.items c.args.handle.now.shard c.in-Some.own.now c.seat.view_is (search rules) c.in-Some.ensures.value not in
-    let f = c.write.ensures.foreign other in (f.0, stayed c.args.seat.now c.seat.inside.seats.items c.args.handle.now.shard c.in-Some.own.now c.write.new.own c.seat.view_is c.in-Some.ensures.value f.1, ap (λ h. record { shard = c.args.handle.now.shard; handle = h }) f.2)
+    let f = c.ask.ensures.foreign other in (f.0.0, stayed c.args.seat.now c.seat.inside.seats.items c.args.handle.now.shard c.in-Some.own.now c.ask.new.own c.seat.view_is c.in-Some.ensures.value f.1, ap (λ h. record { shard = c.args.handle.now.shard; handle = h }) f.0.1)
 
 pub returns-clause-seated : goal.returns-clause-seated
 returns-clause-seated g c =
-    seated_after g.B.ShardNaming.names c.args.seat.now c.seat.inside.seats.items c.args.handle.now.shard c.in-Some.own.now c.write.new.own c.seat.view_is (search rules) c.in-Some.ensures.value c.requires.seat
-    c.write.ensures.goes
+    seated_after g.B.ShardNaming.names c.args.seat.now c.seat.inside.seats.items c.args.handle.now.shard c.in-Some.own.now c.ask.new.own c.seat.view_is (search rules) c.in-Some.ensures.value c.requires.seat
+    c.ask.ensures.goes
 
 pub returns-clause-call : goal.returns-clause-call
 returns-clause-call g c = λ there. called
-    (WritesOn (g.B.ShardNaming.names c.args.handle.now.shard) c.args.handle.now.handle c.write.new.handle c.args.bytes.now c.write.result)
-    (g.B.ShardNaming.names c.args.handle.now.shard).name c.args.seat.now c.seat.inside.seats.items c.args.handle.now.shard c.in-Some.own.now c.write.new.own c.seat.view_is (search rules) c.in-Some.ensures.value c.write.ensures.call
+    (WritesOn (g.B.ShardNaming.names c.args.handle.now.shard) c.args.handle.now.handle c.ask.new.call.handle.now c.args.bytes.now c.ask.result)
+    (g.B.ShardNaming.names c.args.handle.now.shard).name c.args.seat.now c.seat.inside.seats.items c.args.handle.now.shard c.in-Some.own.now c.ask.new.own c.seat.view_is (search rules) c.in-Some.ensures.value c.ask.ensures.call

@@ -2,14 +2,13 @@ use Rattle.std.proofs.Common.{◌∙◌, ◌⊎◌, subst, sym}
 use Rattle.shared.specs.Rooms.{IsFinal}
 use Rattle.shared.specs.Settled.{Settles}
 use Rattle.shared.specs.Synced.{IsFsyncDenied, IsNotBegun}
-use Rattle.shared.proofs.shards.sync.SharedCache+Shard+B+K+D+T.fsync_range_in.Goals as goal
+use Rattle.shared.proofs.shards.sync.FsyncRangeSeatCall.on.Goals as goal
 
 -- the clauses speak of the name that the cache has, which is the one that B names
 pub returns-in-Err-clause-call : goal.returns-in-Err-clause-call
 returns-in-Err-clause-call g c = λ named.
-    let n = g.B.ShardNaming.names g.row.K in
-    let is = c.args.self.now.named in
-    let h = c.args.handle.now in
+    let is = c.args.cache.now.named in
+    let h = c.args.self.now.handle.now in
     let to = c.fsync_range.new.handle in
     let before = c.args.own.now in
     let after = c.fsync_range.new.seat in
@@ -21,9 +20,9 @@ returns-in-Err-clause-call g c = λ named.
       same = c.in-Err.ensures.same;
       clean = tt;
       hears = tt;
-      denied = λ same. subst (λ m. IsFsyncDenied n.files n.sizes m n.whole h.number c.args.first c.args.last before after h.pass to.pass d) is
+      denied = λ same. subst (λ m. IsFsyncDenied g.N.Naming.files g.N.Naming.sizes m g.N.Naming.whole h.number c.args.self.now.first c.args.self.now.last before after h.pass to.pass d) is
           (c.in-Err.ensures.denied (named ∙ sym is) (same ∙ sym is));
-      stands = subst (λ m. IsNotBegun n.files n.sizes m n.whole h.number c.args.first c.args.last before after d ⊎ IsFinal n.files n.sizes m after d) is
+      stands = subst (λ m. IsNotBegun g.N.Naming.files g.N.Naming.sizes m g.N.Naming.whole h.number c.args.self.now.first c.args.self.now.last before after d ⊎ IsFinal g.N.Naming.files g.N.Naming.sizes m after d) is
           c.in-Err.ensures.stands;
       settled = subst (λ m. Settles m before after) is c.in-Err.ensures.settled;
     }
