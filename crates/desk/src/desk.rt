@@ -255,8 +255,20 @@ impl<D: BlockDevice> Desk<D> {
     }
 }
 
-/// Before a call that may change where the files stand. By a call, since the check is slow where a catalog goes out of scope.
+/// Before a call that may change where the files stand.
+#[inline(always)]
 fn forget(places: &mut Option<Catalog>)
+    ensures { places.new ≡ None }
+{
+    // asked first, since to take out nothing stores a whole catalog of it
+    if places.is_some() {
+        discard(places);
+    }
+}
+
+/// By a call, since the check is slow where a catalog goes out of scope.
+#[inline(never)]
+fn discard(places: &mut Option<Catalog>)
     ensures { places.new ≡ None }
 {
     drop(places.take());

@@ -12,13 +12,20 @@ use filesvc::{Handle, Solo};
 use pc_types::Refusal;
 use pc_types::limits::MAX_TOUCHED;
 
-/// How many bytes from an offset on one call may be of: to the end of the sixteenth page that they touch.
-fn span(page: u64, offset: u64) -> u64
-    ensures { 0 < result }
+/// How many of the bytes that are left from an offset on one call may be of: all, or those up to the end of the sixteenth page that they
+/// touch.
+fn part(page: u64, offset: u64, left: usize) -> usize
+    requires { 0 < left }
+    ensures some { 0 < result }
+    ensures most { result ≤ left }
 {
+    // Bytes of fifteen pages touch sixteen at most, wherever they begin. So most calls divide nothing.
+    if left as u64 <= page.saturating_mul(MAX_TOUCHED - 1) {
+        return left;
+    }
     let all = page.saturating_mul(MAX_TOUCHED);
     let before = offset.checked_rem(page).unwrap_or(0);
-    all.saturating_sub(before).max(1)
+    left.min(all.saturating_sub(before).max(1) as usize)
 }
 
 /// Reads as `Solo::pread` does, but any number of bytes.
@@ -40,7 +47,7 @@ pub(crate) fn read_long<D: BlockDevice>(
         let Some(at) = offset.checked_add(done as u64) else {
             return Err(Refusal::TooLarge);
         };
-        let end = out.len().min(done.saturating_add(span(page, at) as usize));
+        let end = done + part(page, at, out.len() - done);
         let part = &mut out[done..end];
         let count = solo.pread(handle, at, part)? as usize;
         done += count;
@@ -70,9 +77,7 @@ pub(crate) fn write_long<D: BlockDevice>(
         let Some(at) = offset.checked_add(done as u64) else {
             return Ok(done as u64);
         };
-        let end = bytes
-            .len()
-            .min(done.saturating_add(span(page, at) as usize));
+        let end = done + part(page, at, bytes.len() - done);
         match solo.pwrite(handle, at, &bytes[done..end]) {
             Ok(_) => done = end,
             Err(refusal) => {

@@ -80,7 +80,13 @@ impl Held {
     {
         let old = std::mem::replace(self, Held::of(Loose::of(cache)));
         if let Some(loose) = old.take(alloc) {
-            drop(loose.into_box());
+            free(loose);
         }
     }
+}
+
+/// Frees a cache. By a call, since it wants the room of a cache on the stack, which each call would take else.
+#[inline(never)]
+fn free(cache: Loose<Cache, Global>) {
+    drop(cache.into_box());
 }
