@@ -138,14 +138,14 @@ impl Pages {
         (first..end).find(|page| !self.is_cached(file, *page))
     }
 
-    /// Whether fewer frames are free than pages from `first` up to `end` are not cached. It looks up no more pages than tell.
-    pub fn lacks_frames(&self, file: u64, first: u64, end: u64) -> bool
-        requires here { file < length self.now.files }
+    /// Whether fewer frames are free than pages from `first` up to `end` are not cached, by the flags of these pages.
+    pub fn lacks_frames(&self, first: u64, end: u64, cached: &[bool]) -> bool
         requires order { first ≤ end }
-        ensures { result ≡ nat_lt self.now.free (count_by (λ p. not (is_some (stored_page self.now file p))) (range_with_len first (end - first))) }
+        requires long { end - first ≤ length cached.now }
+        ensures { result ≡ nat_lt self.now.free (count_by (λ p. not (slice_index_or cached.now (p - first) false)) (range_with_len first (end - first))) }
     {
         has_more(first, end, self.free_frames(), |page| {
-            !self.is_cached(file, page)
+            !cached[(page - first) as usize]
         })
     }
 

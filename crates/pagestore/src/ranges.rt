@@ -1,9 +1,9 @@
 //! Ranges of pages: written and read, one page after the other.
 
-ghost use Rattle.std.specs.Prelude.{◌≡◌, ◌+◌, ◌-◌, ◌/◌, ◌<◌, ◌≤◌, IfNone, IfSome, OnOk, OnErr, length, find, not, is_some, count_by, filter};
+ghost use Rattle.std.specs.Prelude.{◌≡◌, ◌+◌, ◌-◌, ◌/◌, ◌<◌, ◌≤◌, IfNone, IfSome, OnOk, OnErr, length, find, not, is_some, count_by};
 ghost use Rattle.std.specs.List.{range_with_len};
 ghost use Rattle.mapping.specs.declared.mapping.TheConstants.{MAX_PAGES};
-ghost use Rattle.pagestore.specs.Ranges.{AreCached, AreRead, AreSized, AreWritten, HasAbsent};
+ghost use Rattle.pagestore.specs.Ranges.{AreCached, AreFlags, AreRead, AreSized, AreWritten, HasAbsent};
 ghost use Rattle.machine.specs.PageLists.{each_accessed, flagged};
 ghost use Rattle.machine.specs.State.{touched};
 ghost use Rattle.pagestore.specs.Store.{stored_at, stored_page, with_lists, NoneAwaited};
@@ -14,10 +14,16 @@ use pc_types::limits::{MAX_FILE_SIZE, MAX_PAGE_SIZE, MAX_TOUCHED};
 use std::alloc::AllocError;
 
 impl Pages {
-    /// Writes the bytes into the span's pages from `page` on, and makes those that are absent. Where memory is refused, the pages
-    /// made so far are taken away again, the last one first. It calls itself once a page: at most 16 times in a call of the
-    /// cache (no clause says so). Decision 67.
-    pub fn write(&mut self, span: Span, bytes: &[u8], page: u64) -> Result<(), AllocError>
+    /// Writes the bytes into the span's pages from `page` on, and makes those that are absent, by the flags of these pages. Where
+    /// memory is refused, the pages made so far are taken away again, the last one first. It calls itself once a page: at most 16
+    /// times in a call of the cache (no clause says so). Decision 67.
+    pub fn write(
+        &mut self,
+        span: Span,
+        bytes: &[u8],
+        cached: &[bool],
+        page: u64,
+    ) -> Result<(), AllocError>
         requires here { span.file < length self.old.files }
         requires size { span.page_size ≡ self.old.page }
         requires positive { 0 < span.page_size }
@@ -30,6 +36,7 @@ impl Pages {
         requires below { span.end ≤ MAX_PAGES }
         requires sized { AreSized span.page_size (stored_at self.old span.file).pages }
         requires idle { NoneAwaited span.file page span.end self.old }
+        requires flags { AreFlags cached.now self.old.files span.file page span.end }
         requires room { count_by (λ p. not (is_some (stored_page self.old span.file p))) (range_with_len page (span.end - page)) ≤ self.old.free }
         ensures written { OnOk result (AreWritten span.page_size span.file span.offset bytes.now page span.end self.old self.new) }
         ensures err { OnErr result (self.new ≡ self.old) }
@@ -39,13 +46,13 @@ impl Pages {
             return Ok(());
         }
         let (at, part) = span.part(bytes, page);
-        if self.is_cached(span.file, page) {
-            self.write(span, bytes, page + 1)?;
+        if cached[0] {
+            self.write(span, bytes, &cached[1..], page + 1)?;
             self.put(span.file, page, at, part);
             return Ok(());
         }
         self.make_with(span.file, page, at, part)?;
-        let rest = self.write(span, bytes, page + 1);
+        let rest = self.write(span, bytes, &cached[1..], page + 1);
         if rest.is_err() {
             self.leave(span.file, page);
         }
@@ -139,7 +146,7 @@ impl Pages {
     pub fn which_cached(&self, file: u64, first: u64, end: u64) -> [bool; MAX_TOUCHED as usize]
         requires here { file < length self.now.files }
         requires few { end - first ≤ MAX_TOUCHED }
-        ensures { flagged first result ≡ filter (λ p. is_some (stored_page self.now file p)) (range_with_len first (end - first)) }
+        ensures { AreFlags result self.now.files file first end }
     {
         let mut cached = [false; MAX_TOUCHED as usize];
         for page in first..end {
