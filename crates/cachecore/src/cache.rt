@@ -19,7 +19,7 @@ use crate::placing::{lacks_blocks, place};
 use blockmap::BlockMap;
 use catalog::Catalog;
 use machine::Event;
-use pagestore::{Layout, Pages, Span};
+use pagestore::{Layout, Pages, Reading, Span};
 use pc_types::limits::{MAX_FILE_SIZE, MAX_FILES, MAX_HANDLES, MAX_PAGE_SIZE, MAX_TOUCHED};
 use pc_types::{FileId, Geometry, HandleId, PageIndex, Refusal};
 use std::alloc::{AllocError, Global};
@@ -170,13 +170,11 @@ impl CacheCore {
             return Err(Refusal::TooLong);
         }
         let out = &mut out[..count as usize];
-        let Some(page) = self.pages.read(file, page_size, offset, out) else {
-            return Ok(ReadAnswer::Bytes(count));
-        };
-        if self.is_filling(file, page) {
-            return Ok(ReadAnswer::Wait(PageIndex(page)));
+        match self.pages.read(file, page_size, offset, out) {
+            Reading::Done => Ok(ReadAnswer::Bytes(count)),
+            Reading::Filling(page) => Ok(ReadAnswer::Wait(PageIndex(page))),
+            Reading::Absent(page) => Ok(ReadAnswer::Miss(PageIndex(page))),
         }
-        Ok(ReadAnswer::Miss(PageIndex(page)))
     }
 
     /// Writes the bytes into the file from `offset` on. A gap before them reads as zeros.

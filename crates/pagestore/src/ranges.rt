@@ -6,9 +6,10 @@ ghost use Rattle.mapping.specs.declared.mapping.TheConstants.{MAX_PAGES};
 ghost use Rattle.pagestore.specs.Ranges.{AreCached, AreFlags, AreRead, AreSized, AreWritten, HasAbsent};
 ghost use Rattle.machine.specs.PageLists.{each_accessed, flagged};
 ghost use Rattle.machine.specs.State.{touched};
-ghost use Rattle.pagestore.specs.Store.{stored_at, stored_page, with_lists, NoneAwaited};
+ghost use Rattle.pagestore.specs.Reads.{TellsWaits, stop_of};
+ghost use Rattle.pagestore.specs.Store.{is_awaited, stored_at, stored_page, with_lists, NoneAwaited};
 
-use crate::pages::Pages;
+use crate::pages::{Pages, Reading};
 use crate::span::Span;
 use pc_types::limits::{MAX_FILE_SIZE, MAX_PAGE_SIZE, MAX_TOUCHED};
 use std::alloc::AllocError;
@@ -61,7 +62,7 @@ impl Pages {
 
     /// Copies the bytes from `offset` on out of their pages, and notes that each was read. Where not all of them are cached it
     /// answers the first that is not, and does nothing else.
-    pub fn read(&mut self, file: u64, page_size: u64, offset: u64, out: &mut [u8]) -> Option<u64>
+    pub fn read(&mut self, file: u64, page_size: u64, offset: u64, out: &mut [u8]) -> Reading
         requires here { file < length self.old.files }
         requires page { page_size ≡ self.old.page }
         requires positive { 0 < page_size }
@@ -69,33 +70,25 @@ impl Pages {
         requires some { 0 < length out.old }
         requires bound { offset + length out.old ≤ MAX_FILE_SIZE }
         requires sized { AreSized page_size (stored_at self.old file).pages }
-        ensures absent { result ≡ find (λ p. not (is_some (stored_page self.old file p))) (range_with_len (offset / page_size) ((offset + length out.old - 1) / page_size + 1 - offset / page_size)) }
-        ensures kept { IfSome result (λ _. out.new ≡ out.old) }
-        ensures same { IfSome result (λ _. self.new ≡ self.old) }
-        ensures read { IfNone result (AreRead page_size offset (stored_at self.old file).pages (length out.new) out.new) }
-        ensures moved { IfNone result (self.new ≡ with_lists self.old (each_accessed file (touched page_size offset (length out.old)) self.old.lists)) }
+        ensures stop { stop_of result ≡ find (λ p. not (is_some (stored_page self.old file p))) (range_with_len (offset / page_size) ((offset + length out.old - 1) / page_size + 1 - offset / page_size)) }
+        ensures awaited { TellsWaits result (is_awaited self.old file) }
+        ensures kept { IfSome (stop_of result) (λ _. out.new ≡ out.old) }
+        ensures same { IfSome (stop_of result) (λ _. self.new ≡ self.old) }
+        ensures read { IfNone (stop_of result) (AreRead page_size offset (stored_at self.old file).pages (length out.new) out.new) }
+        ensures moved { IfNone (stop_of result) (self.new ≡ with_lists self.old (each_accessed file (touched page_size offset (length out.old)) self.old.lists)) }
     {
         let first = offset / page_size;
         let at = offset % page_size;
         if at + out.len() as u64 <= page_size {
             // bytes of one page
-            if self.read_within(file, first, at as usize, out) {
-                return None;
-            }
-            return Some(first);
+            return self.read_within(file, first, at as usize, out);
         }
         self.read_several(file, page_size, offset, out)
     }
 
     /// The same of any number of pages, by two look-ups a page.
     #[inline(never)]
-    fn read_several(
-        &mut self,
-        file: u64,
-        page_size: u64,
-        offset: u64,
-        out: &mut [u8],
-    ) -> Option<u64>
+    fn read_several(&mut self, file: u64, page_size: u64, offset: u64, out: &mut [u8]) -> Reading
         requires here { file < length self.old.files }
         requires page { page_size ≡ self.old.page }
         requires positive { 0 < page_size }
@@ -103,19 +96,23 @@ impl Pages {
         requires some { 0 < length out.old }
         requires bound { offset + length out.old ≤ MAX_FILE_SIZE }
         requires sized { AreSized page_size (stored_at self.old file).pages }
-        ensures absent { result ≡ find (λ p. not (is_some (stored_page self.old file p))) (range_with_len (offset / page_size) ((offset + length out.old - 1) / page_size + 1 - offset / page_size)) }
-        ensures kept { IfSome result (λ _. out.new ≡ out.old) }
-        ensures same { IfSome result (λ _. self.new ≡ self.old) }
-        ensures read { IfNone result (AreRead page_size offset (stored_at self.old file).pages (length out.new) out.new) }
-        ensures moved { IfNone result (self.new ≡ with_lists self.old (each_accessed file (touched page_size offset (length out.old)) self.old.lists)) }
+        ensures stop { stop_of result ≡ find (λ p. not (is_some (stored_page self.old file p))) (range_with_len (offset / page_size) ((offset + length out.old - 1) / page_size + 1 - offset / page_size)) }
+        ensures awaited { TellsWaits result (is_awaited self.old file) }
+        ensures kept { IfSome (stop_of result) (λ _. out.new ≡ out.old) }
+        ensures same { IfSome (stop_of result) (λ _. self.new ≡ self.old) }
+        ensures read { IfNone (stop_of result) (AreRead page_size offset (stored_at self.old file).pages (length out.new) out.new) }
+        ensures moved { IfNone (stop_of result) (self.new ≡ with_lists self.old (each_accessed file (touched page_size offset (length out.old)) self.old.lists)) }
     {
         let first = offset / page_size;
         let end = (offset + out.len() as u64 - 1) / page_size + 1;
         if let Some(page) = self.first_absent(file, first, end) {
-            return Some(page);
+            if self.is_awaited(file, page) {
+                return Reading::Filling(page);
+            }
+            return Reading::Absent(page);
         }
         self.read_each(file, page_size, offset, out);
-        None
+        Reading::Done
     }
 
     /// Copies the bytes from `offset` on out of pages that are cached, and notes that each was read.
