@@ -36,6 +36,20 @@ live Fill false h = (refl, refl)
 live Fill true h = absurd (false≢true h)
 live Flush d h = absurd (false≢true h)
 
+-- a page that is cached is not filling
+pub cached_unfilled : (s : State) → Sound s → (f p : ℕ) → is_cached s f p ≡ true → is_filling s f p ≡ false
+cached_unfilled s ok f p cached = go (is_filling s f p) refl
+  where
+    go : (b : Bool) → is_filling s f p ≡ b → is_filling s f p ≡ false
+    go false e = e
+    go true e =
+        let x = passing (fills f p) (finmap.entries s.requests) (entries_sorted s.requests) e in
+        let of = fills_parts f p x.1 x.3 in
+        let kind = live x.1.kind x.1.dropped of.0 in
+        let none : page_at s x.1.file x.1.page ≡ None = ok.fill x.0 x.1 (get-entries s.requests x.0 ∙ x.2) kind.1
+        kind.0 in
+        absurd (false≢true (ap is_some (sym none) ∙ (λ i. is_cached s (of.1 i) (of.2 i)) ∙ cached))
+
 module _ (s : State) (ok : Sound s) (f p : ℕ) (dirty : (tags_at s f p).dirty ≡ true) where
   pub dirty_cached : is_cached s f p ≡ true
   dirty_cached = tagged_some (page_at s f p) dirty
@@ -44,17 +58,7 @@ module _ (s : State) (ok : Sound s) (f p : ℕ) (dirty : (tags_at s f p).dirty �
   dirty_placed = block_some (spot_at s f p) (ok.dirty_block f p dirty)
 
   pub dirty_unfilled : is_filling s f p ≡ false
-  dirty_unfilled = go (is_filling s f p) refl
-    where
-      go : (b : Bool) → is_filling s f p ≡ b → is_filling s f p ≡ false
-      go false e = e
-      go true e =
-          let x = passing (fills f p) (finmap.entries s.requests) (entries_sorted s.requests) e in
-          let of = fills_parts f p x.1 x.3 in
-          let kind = live x.1.kind x.1.dropped of.0 in
-          let none : page_at s x.1.file x.1.page ≡ None = ok.fill x.0 x.1 (get-entries s.requests x.0 ∙ x.2) kind.1
-          kind.0 in
-          absurd (false≢true (ap is_some (sym none) ∙ (λ i. is_cached s (of.1 i) (of.2 i)) ∙ dirty_cached))
+  dirty_unfilled = cached_unfilled s ok f p dirty_cached
 
   -- n bytes that touch this page alone
   module _ (o n : ℕ) (alone : touched s.sizes.page o n ≡ p ∷ []) where

@@ -13,6 +13,7 @@ use Rattle.pc_types.specs.Spots.{Spot, place_cmp, shown}
 use Rattle.pc_types.proofs.SpotLaws.{length-shown}
 use Rattle.pc_types.specs.Tags.{no_tags}
 use Rattle.pc_types.specs.declared.kind.Kind.{Kind}
+use Rattle.pc_types.specs.declared.refusal.Refusal.TheVariants.{Stranger}
 use Rattle.pc_types.specs.declared.kind.Kind.TheVariants.{Fill, Flush}
 use Rattle.blockdev.specs.Jobs.{FinishedTask}
 use Rattle.blockmap.specs.Blocks.{Blocks, with_valid}
@@ -28,10 +29,11 @@ use Rattle.machine.specs.PageLists as lists
 use Rattle.machine.specs.State.{State, File, Page, Request, no_file, page_at, tags_of, valid_at}
 use Rattle.machine.specs.Changes.{ended, after_write, flush_failed}
 use Rattle.pagestore.specs.Store.{the_page, Store, is_awaited, stored_at, stored_page, with_pages}
+use Rattle.cachecore.specs.Ending.{request_ended}
 use Rattle.cachecore.specs.Replies.{end_of, outcome_of}
 use Rattle.cachecore.proofs.EndKeeps.{failed_core, filled_core, fills_here, flushed_core, put_is, quiet_core}
 use Rattle.cachecore.proofs.EndKeeps.{unfilled_core}
-use Rattle.cachecore.proofs.EndSteps.{Ends, dropped_step, end_step}
+use Rattle.cachecore.proofs.EndSteps.{Ends, dropped_step, end_step, stranger_step}
 use Rattle.cachecore.proofs.Parts.{Goes, IsKept, Parts, goes_to, state_by}
 use Rattle.cachecore.proofs.RequestLaws.{dropped_fills_none, flush_fills_none}
 use Rattle.cachecore.proofs.SyncLaws.{failed_syncs, moved_syncs, pages_failed}
@@ -48,6 +50,15 @@ valid_is : (o : Option Spot) (b n : ℕ) (place : ℕ × ℕ) (spots : finmap.Fi
 valid_is None b n place spots e = absurd cc
 valid_is (Some x) b n place spots e =
     (let same : x.block ≡ b = cc in ap (λ k. finmap.insert spots place (record { block = k; valid = n })) same)
+
+-- no request ends, and their table is as it was
+pub refused : (p : Parts) → IsKept p → (seen : State) → state_by p ≡ seen → (kind : Kind) (f : FinishedTask)
+    → None ≡ request_ended p.name p.flights.requests kind f → (t : Flights) → t ≡ p.flights
+    → Goes seen (event.End kind (end_of f)) (reply.Refused Stranger) (record p { flights = t })
+refused p w seen seen_is kind f none t same =
+    goes_to (state_by p) seen seen_is (event.End kind (end_of f)) (reply.Refused Stranger) p _
+    (λ i. let y : Parts = record p { flights = same i } in y)
+    (record { step = stranger_step (state_by p) kind f none; cache = w })
 
 module _ (p : Parts)
     (w : IsKept p) (f : FinishedTask) (x : Request)

@@ -19,7 +19,8 @@ use Rattle.machine.specs.Changes.{ended}
 use Rattle.machine.specs.Tests.{fits, is_of, refuse, tests}
 use Rattle.machine.specs.Step.{EndReply, Step}
 use Rattle.machine.proofs.steps.Choices.{and_true}
-use Rattle.cachecore.specs.Ending.{of_call, request_ended}
+use Rattle.writeback.specs.Flights.{of_call}
+use Rattle.cachecore.specs.Ending.{request_ended}
 use Rattle.cachecore.specs.Replies.{end_of, outcome_of}
 use Rattle.cachecore.proofs.StepLemmas.{by_change, by_test}
 
@@ -63,10 +64,9 @@ module _ (s : State) (kind : Kind) (f : FinishedTask) where
             block = eqb-true f.block y.block call.1 ∙ ap (λ (r : Request). r.block) same;
           }
 
-  -- of the request that the code found, in a state that is this one
-  pub known : (t : State) (x : Request) → s ≡ t → Some x ≡ request_ended t kind f → Ends s kind f x
-  known t x view told =
-      ends_by ours refl (finmap.get s.requests f.serial) refl x (ap (λ t. request_ended t kind f) view ∙ sym told)
+  -- of the request that the code found
+  pub known : (x : Request) → Some x ≡ request_ended s.name s.requests kind f → Ends s kind f x
+  known x told = ends_by ours refl (finmap.get s.requests f.serial) refl x (sym told)
 
   -- ---- where there is none
 
@@ -88,7 +88,7 @@ module _ (s : State) (kind : Kind) (f : FinishedTask) where
       let clash : Some x ≡ None = sym (λ i. cond (on i) (cond (u.1 i && z.1 i) (Some x) None) None) ∙ is in
       cc
 
-  pub stranger_step : None ≡ request_ended s kind f → Step s (event.End kind (end_of f)) (reply.Refused Stranger) s
+  pub stranger_step : None ≡ request_ended s.name s.requests kind f → Step s (event.End kind (end_of f)) (reply.Refused Stranger) s
   stranger_step none = by_test s (event.End kind (end_of f)) (reply.Refused Stranger) (go passes refl)
     where
       passes : Bool

@@ -37,6 +37,7 @@ pub mod SyncLaws
 pub mod SyncSteps
 pub mod TouchCounts
 pub mod Values
+pub mod WriteFlags
 pub mod WriteLemmas
 pub mod WriteMoves
 pub mod WriteSteps

@@ -13,8 +13,9 @@ use Rattle.pc_types.specs.declared.ids.PageIndex.{PageIndex}
 use Rattle.pc_types.specs.declared.ids.Serial.{Serial}
 use Rattle.pc_types.specs.declared.ids.SyncId.{SyncId}
 use Rattle.pc_types.specs.declared.limits.TheConstants.{MAX_SYNCS}
-use Rattle.pc_types.specs.declared.refusal.Refusal.TheVariants.{TooManyInFlight}
+use Rattle.pc_types.specs.declared.refusal.Refusal.TheVariants.{Stranger, TooManyInFlight}
 use Rattle.blockdev.specs.Jobs.{Task}
+use Rattle.mapping.proofs.MapLemmas.{remove_absent}
 use Rattle.mapping.specs.declared.page.FoundPage.{FoundPage}
 use Rattle.writeback.specs.Flights as flights
 use Rattle.writeback.specs.declared.picks.SyncStep.TheVariants.{Await, Held, Over, Start}
@@ -41,10 +42,11 @@ use Rattle.cachecore.specs.Starting.{IsNext, IsStarted, MayStart, with_started}
 use Rattle.cachecore.specs.Tables.{IsCore}
 use Rattle.cachecore.proofs.CoreLemmas.{core-syncs}
 use Rattle.cachecore.proofs.FileKeeps.{all_frames, cached_after, count_files, each_file, file_core}
-use Rattle.cachecore.proofs.Parts.{Goes, IsKept, Parts, state_by}
+use Rattle.cachecore.proofs.Parts.{Goes, IsKept, Parts, goes_to, state_by}
 use Rattle.cachecore.proofs.SyncChanges.{change_is, changed_syncs, put_syncs, removed_syncs}
 use Rattle.cachecore.proofs.SyncLaws.{moved_syncs, pages_failed}
 use Rattle.cachecore.proofs.SyncSteps.{begun_step, clean_step, dropped_step, failed_step, full_step, held_step, no_test}
+use Rattle.cachecore.proofs.SyncSteps.{not_dropped_step}
 use Rattle.cachecore.proofs.SyncSteps.{pick_is, started_step, wait_step}
 
 -- a table that is full
@@ -180,6 +182,14 @@ module _ (p : Parts)
       → Goes s (event.SyncDrop m) reply.Dropped (without m)
   drops m there =
       record { step = dropped_step s m there (state_by (without m)) refl; cache = without_cache m }
+
+  -- there is no such sync
+  pub drops_none : (m : SyncId) → finmap.get p.syncs m.0 ≡ None
+      → Goes s (event.SyncDrop m) (reply.Refused Stranger) (without m)
+  drops_none m none =
+      goes_to s s refl (event.SyncDrop m) (reply.Refused Stranger) p (without m)
+      (let same = remove_absent p.syncs m.0 none in λ i. let x : Parts = record p { syncs = same i } in x)
+      (record { step = not_dropped_step s m (ap is_some none); cache = w })
 
   -- ---- a sync y goes on, of this file
 

@@ -1,9 +1,15 @@
--- Inside this crate: the blocks that the pages of a write take.
-use Rattle.std.specs.Prelude.{◌≡◌, ◌<◌, ◌≤◌, ℕ, Bool, true, not, List, map, filter, is_some}
+-- Inside this crate: which pages of a write are cached, and the blocks that its pages take.
+use Rattle.std.specs.Prelude.{◌≡◌, ◌+◌, ◌-◌, ◌/◌, ◌<◌, ◌≤◌, ℕ, Bool, true, not, List, map, filter, is_some}
 use Rattle.std.specs.List.{zip}
 use Rattle.std.specs.FinMap.{get}
 use Rattle.maps.specs.Maps.{overwrite}
 use Rattle.blockmap.specs.Blocks.{Blocks, Spots, free_blocks}
+use Rattle.machine.specs.State.{State}
+use Rattle.pagestore.specs.Ranges.{AreFlags}
+
+-- the flags that are set are those of the cached pages of file f that n bytes at o touch
+abbrev pub AreFlagged : List Bool → State → ℕ → ℕ → ℕ → Type 0
+AreFlagged flags s f o n = AreFlags flags s.files f (o / s.sizes.page) ((o + n - 1) / s.sizes.page + 1)
 
 -- whether page p of file f has no block
 abbrev pub is_bare : Blocks → ℕ → ℕ → Bool

@@ -4,12 +4,13 @@ ghost use Rattle.std.specs.Prelude.{◌≡◌, ◌≢◌, ◌+◌, ◌-◌, ◌*
 ghost use Rattle.std.specs.FinMap as map;
 ghost use Rattle.std.specs.List.{range_with_len};
 ghost use Rattle.mapping.specs.declared.mapping.TheConstants.{MAX_PAGES};
-ghost use Rattle.machine.specs.State.{dirty_total, handle_file, is_filling, page_count, tags_at, touched_count};
+ghost use Rattle.machine.specs.State.{dirty_total, handle_file, is_cached, is_filling, is_written, page_count, tags_at, touched_count};
 ghost use Rattle.machine.specs.Tests.{covers, must_fill, room_tests, write_stop, write_tests};
 ghost use Rattle.machine.specs.Changes.{written};
 ghost use Rattle.machine.specs.Step.{Step, wants_memory};
 ghost use Rattle.machine.specs.PageLists.{no_lists};
 ghost use Rattle.machine.specs.ListChanges.{lists_after, lists_written};
+ghost use Rattle.cachecore.specs.Placing.{AreFlagged};
 ghost use Rattle.cachecore.specs.Replies.{created, opened, closed, sized, wrote, was_read, bytes_read, test_of, TagsAre};
 
 use crate::answers::{PageTags, ReadAnswer, WriteAnswer};
@@ -18,7 +19,7 @@ use crate::placing::{lacks_blocks, place};
 use blockmap::BlockMap;
 use catalog::Catalog;
 use machine::Event;
-use pagestore::{Layout, Pages, Span};
+use pagestore::{Layout, Pages, Reading, Span};
 use pc_types::limits::{MAX_FILE_SIZE, MAX_FILES, MAX_HANDLES, MAX_PAGE_SIZE, MAX_TOUCHED};
 use pc_types::{FileId, Geometry, HandleId, PageIndex, Refusal};
 use std::alloc::{AllocError, Global};
@@ -169,13 +170,11 @@ impl CacheCore {
             return Err(Refusal::TooLong);
         }
         let out = &mut out[..count as usize];
-        let Some(page) = self.pages.read(file, page_size, offset, out) else {
-            return Ok(ReadAnswer::Bytes(count));
-        };
-        if self.is_filling(file, page) {
-            return Ok(ReadAnswer::Wait(PageIndex(page)));
+        match self.pages.read(file, page_size, offset, out) {
+            Reading::Done => Ok(ReadAnswer::Bytes(count)),
+            Reading::Filling(page) => Ok(ReadAnswer::Wait(PageIndex(page))),
+            Reading::Absent(page) => Ok(ReadAnswer::Miss(PageIndex(page))),
         }
-        Ok(ReadAnswer::Miss(PageIndex(page)))
     }
 
     /// Writes the bytes into the file from `offset` on. A gap before them reads as zeros.
@@ -208,14 +207,15 @@ impl CacheCore {
         if self.overwrite(file, offset, bytes) {
             return Ok(WriteAnswer::Wrote { count, end });
         }
-        if let Some(page) = self.write_stop(file, offset, count) {
+        let cached = self.which_cached(file, offset, count);
+        if let Some(page) = self.write_stop(file, offset, count, &cached) {
             if self.is_filling(file, page) {
                 return Ok(WriteAnswer::Wait(PageIndex(page)));
             }
             return Ok(WriteAnswer::Miss(PageIndex(page)));
         }
-        self.check_room(file, offset, count)?;
-        self.write_pages(file, offset, bytes)?;
+        self.check_room(file, offset, count, &cached)?;
+        self.write_pages(file, offset, bytes, &cached)?;
         Ok(WriteAnswer::Wrote { count, end })
     }
 
@@ -246,49 +246,79 @@ impl CacheCore {
         ensures { result ≡ must_fill self.now.state file page }
     {
         // first, since most pages are cached, and a page is found in fewer steps than its block (decision 168)
-        if self.pages.is_cached(file, page) {
-            return false;
-        }
+        !self.pages.is_cached(file, page) && self.is_written(file, page)
+    }
+
+    /// Whether the page has bytes on the device.
+    fn is_written(&self, file: u64, page: u64) -> bool
+        requires here { file < length self.now.state.files }
+        requires below { page < MAX_PAGES }
+        ensures { result ≡ is_written self.now.state file page }
+    {
         match self.blocks.map(FileId(file), PageIndex(page)) {
             Some(placed) => placed.valid > 0,
             None => false,
         }
     }
 
-    /// The first page that stops a write which touches it: it is filling, or its bytes are on the device alone and are not
-    /// all written over.
-    fn write_stop(&self, file: u64, offset: u64, count: u64) -> Option<u64>
+    /// Which pages that a write touches are cached: a flag for each.
+    fn which_cached(&self, file: u64, offset: u64, count: u64) -> [bool; MAX_TOUCHED as usize]
         requires here { file < length self.now.state.files }
         requires some { 0 < count }
         requires bound { offset + count ≤ MAX_FILE_SIZE }
+        requires few { touched_count self.now.state.sizes.page offset count ≤ MAX_TOUCHED }
+        ensures { AreFlagged result self.now.state file offset count }
+    {
+        let page_size = self.geometry.page();
+        let first = offset / page_size;
+        let end = (offset + count - 1) / page_size + 1;
+        self.pages.which_cached(file, first, end)
+    }
+
+    /// The first page that stops a write which touches it: it is filling, or its bytes are on the device alone and are not
+    /// all written over.
+    fn write_stop(&self, file: u64, offset: u64, count: u64, cached: &[bool]) -> Option<u64>
+        requires here { file < length self.now.state.files }
+        requires some { 0 < count }
+        requires bound { offset + count ≤ MAX_FILE_SIZE }
+        requires flags { AreFlagged cached.now self.now.state file offset count }
         ensures { result ≡ write_stop self.now.state file offset count }
     {
         let page_size = self.geometry.page();
         let first = offset / page_size;
         let end = (offset + count - 1) / page_size + 1;
-        (first..end).find(|page| self.stops_write(file, *page, offset, count))
+        (first..end).find(|page| {
+            let cached = cached[(*page - first) as usize];
+            self.stops_write(file, *page, offset, count, cached)
+        })
     }
 
-    /// Whether a page that a write touches stops it.
-    fn stops_write(&self, file: u64, page: u64, offset: u64, count: u64) -> bool
+    /// Whether a page that a write touches stops it. One that is cached does not.
+    fn stops_write(&self, file: u64, page: u64, offset: u64, count: u64, cached: bool) -> bool
         requires here { file < length self.now.state.files }
         requires below { page < MAX_PAGES }
         requires bound { offset + count ≤ MAX_FILE_SIZE }
+        requires told { cached ≡ is_cached self.now.state file page }
         ensures { result ≡ (is_filling self.now.state file page || (must_fill self.now.state file page && not (covers self.now.state.sizes.page offset count page))) }
     {
+        let page_size = self.geometry.page();
+        if cached {
+            return false;
+        }
         if self.is_filling(file, page) {
             return true;
         }
         // this order, since `covers` looks nothing up
-        !covers(self.geometry.page(), offset, count, page) && self.must_fill(file, page)
+        !covers(page_size, offset, count, page) && self.is_written(file, page)
     }
 
     /// Whether the pages that a write touches may become dirty, and there are frames and blocks for those that need one.
-    fn check_room(&self, file: u64, offset: u64, count: u64) -> Result<(), Refusal>
+    fn check_room(&self, file: u64, offset: u64, count: u64, cached: &[bool]) -> Result<(), Refusal>
         requires here { file < length self.now.state.files }
         requires some { 0 < count }
         requires bound { offset + count ≤ MAX_FILE_SIZE }
         requires few { touched_count self.now.state.sizes.page offset count ≤ MAX_TOUCHED }
+        requires flags { AreFlagged cached.now self.now.state file offset count }
         ensures { test_of result ≡ room_tests self.now.state file offset count }
     {
         let page_size = self.geometry.page();
@@ -297,7 +327,7 @@ impl CacheCore {
         if self.is_over_limit(file, first, end) {
             return Err(Refusal::DirtyLimit);
         }
-        if self.pages.lacks_frames(file, first, end) {
+        if self.pages.lacks_frames(first, end, cached) {
             return Err(Refusal::NoFrame);
         }
         if lacks_blocks(&self.blocks, file, first, end) {
@@ -347,11 +377,18 @@ impl CacheCore {
 
     /// Writes the bytes into a file, which may be made longer. The tests have passed. What may be refused is taken before a byte
     /// of a cached page changes: a write is done whole or not at all.
-    fn write_pages(&mut self, file: u64, offset: u64, bytes: &[u8]) -> Result<(), AllocError>
+    fn write_pages(
+        &mut self,
+        file: u64,
+        offset: u64,
+        bytes: &[u8],
+        cached: &[bool],
+    ) -> Result<(), AllocError>
         requires here { file < length self.old.state.files }
         requires some { 0 < length bytes.now }
         requires bound { offset + length bytes.now ≤ MAX_FILE_SIZE }
         requires few { touched_count self.old.state.sizes.page offset (length bytes.now) ≤ MAX_TOUCHED }
+        requires flags { AreFlagged cached.now self.old.state file offset (length bytes.now) }
         requires passed { (h : ℕ) × (handle_file self.old.state h ≡ file) × (write_tests self.old.state h offset (length bytes.now) ≡ None) }
         ensures ok { OnOk result (self.new.state ≡ written self.old.state file offset bytes.now) }
         ensures lists { OnOk result (self.new.lists ≡ lists_written self.old.state file offset (length bytes.now) self.old.lists) }
@@ -367,9 +404,15 @@ impl CacheCore {
             first: offset / page_size,
             end: (end - 1) / page_size + 1,
         };
-        let cached = self.pages.which_cached(file, span.first, span.end);
-        place(&mut self.pages, &mut self.blocks, span, bytes, span.first)?;
-        self.pages.access_cached(file, span.first, &cached);
+        place(
+            &mut self.pages,
+            &mut self.blocks,
+            span,
+            bytes,
+            cached,
+            span.first,
+        )?;
+        self.pages.access_cached(file, span.first, cached);
         let size = self.pages.size(file).max(end);
         self.pages.set_size(file, size);
         Ok(())

@@ -16,6 +16,7 @@ ghost use Rattle.cachecore.specs.Replies.{EndGivesBack, GivesBack, IsFillJob, Na
 
 use crate::answers::{Ended, FillBegun, Refused, RefusedEnd};
 use crate::cache::{CacheCore, page_count};
+use crate::ends::take_ended;
 use blockdev::{Buffer, Finished, FinishedParts, Job};
 use blockmap::Placed;
 use machine::Event;
@@ -145,17 +146,15 @@ impl CacheCore {
         ensures back { EndGivesBack finished result }
         ensures file { NamesFile self.old.state Kind.Fill finished.serial result }
     {
-        let Some(request) = self.request_ended(Kind::Fill, &finished) else {
+        let Some(request) = take_ended(&mut self.requests, self.name, Kind::Fill, &finished) else {
             let refusal = Refusal::Stranger;
             return Err(RefusedEnd { refusal, finished });
         };
         let FinishedParts {
-            serial,
             buffer,
             outcome,
             ..
         } = finished.into_parts();
-        let _ = self.requests.end(serial);
         self.blocks.release(request.block);
         if request.dropped {
             return Ok(Ended::Dropped(buffer));

@@ -12,6 +12,7 @@ ghost use Rattle.machine.specs.Tests.{is_full};
 
 use crate::answers::{Ended, FlushBegun, Refused, RefusedEnd};
 use crate::cache::CacheCore;
+use crate::ends::take_ended;
 use blockdev::{Buffer, Finished, FinishedParts, Job};
 use machine::Event;
 use pc_types::{FileId, Kind, PageIndex, Refusal};
@@ -85,17 +86,15 @@ impl CacheCore {
         ensures back { EndGivesBack finished result }
         ensures file { NamesFile self.old.state Kind.Flush finished.serial result }
     {
-        let Some(request) = self.request_ended(Kind::Flush, &finished) else {
+        let Some(request) = take_ended(&mut self.requests, self.name, Kind::Flush, &finished) else {
             let refusal = Refusal::Stranger;
             return Err(RefusedEnd { refusal, finished });
         };
         let FinishedParts {
-            serial,
             buffer,
             outcome,
             ..
         } = finished.into_parts();
-        let _ = self.requests.end(serial);
         self.blocks.release(request.block);
         if request.dropped {
             return Ok(Ended::Dropped(buffer));

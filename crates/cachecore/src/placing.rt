@@ -5,7 +5,7 @@ ghost use Rattle.std.specs.List.{range_with_len};
 ghost use Rattle.mapping.specs.declared.mapping.TheConstants.{MAX_PAGES};
 ghost use Rattle.blockmap.specs.Blocks.{free_blocks};
 ghost use Rattle.cachecore.specs.Placing.{HasBare, is_bare, with_placed};
-ghost use Rattle.pagestore.specs.Ranges.{AreSized, AreWritten, HasAbsent};
+ghost use Rattle.pagestore.specs.Ranges.{AreFlags, AreSized, AreWritten, HasAbsent};
 ghost use Rattle.pagestore.specs.Store.{stored_at, stored_page, NoneAwaited};
 
 use blockmap::BlockMap;
@@ -27,13 +27,14 @@ pub fn lacks_blocks(blocks: &BlockMap, file: u64, first: u64, end: u64) -> bool
 }
 
 /// Gives each page of the span from `next` on that has no block the lowest free one, and then writes the bytes into the span's
-/// pages. Where memory is refused, what was given is taken back, the last first. It calls itself once a page: at most 16
-/// times in a call of the cache (no clause says so). Decision 69.
+/// pages, by their flags. Where memory is refused, what was given is taken back, the last first. It calls itself once a page: at most
+/// 16 times in a call of the cache (no clause says so). Decision 69.
 pub fn place(
     pages: &mut Pages,
     blocks: &mut BlockMap,
     span: Span,
     bytes: &[u8],
+    cached: &[bool],
     next: u64,
 ) -> Result<(), AllocError>
     requires file { span.file < MAX_FILES }
@@ -50,6 +51,7 @@ pub fn place(
     requires below { span.end ≤ MAX_PAGES }
     requires sized { AreSized span.page_size (stored_at pages.old span.file).pages }
     requires idle { NoneAwaited span.file span.first span.end pages.old }
+    requires flags { AreFlags cached.now pages.old.files span.file span.first span.end }
     requires frames { count_by (λ p. not (is_some (stored_page pages.old span.file p))) (range_with_len span.first (span.end - span.first)) ≤ pages.old.free }
     requires room { count_by (is_bare blocks.old span.file) (range_with_len next (span.end - next)) ≤ length (free_blocks blocks.old) }
     ensures placed { OnOk result (blocks.new ≡ with_placed blocks.old span.file (range_with_len next (span.end - next))) }
@@ -59,17 +61,17 @@ pub fn place(
     ensures wanting { OnErr result (HasAbsent span.file span.first span.end pages.old ⊎ HasBare span.file next span.end blocks.old) }
 {
     if next == span.end {
-        return pages.write(span, bytes, span.first);
+        return pages.write(span, bytes, cached, span.first);
     }
     let file = FileId(span.file);
     let page = PageIndex(next);
     if blocks.map(file, page).is_some() {
-        return place(pages, blocks, span, bytes, next + 1);
+        return place(pages, blocks, span, bytes, cached, next + 1);
     }
     if blocks.assign(file, page).is_err() {
         return Err(AllocError);
     }
-    let rest = place(pages, blocks, span, bytes, next + 1);
+    let rest = place(pages, blocks, span, bytes, cached, next + 1);
     if rest.is_err() {
         let _ = blocks.unassign(file, page);
     }

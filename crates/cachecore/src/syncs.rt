@@ -143,10 +143,9 @@ impl CacheCore {
         ensures lists { self.new.lists ≡ self.old.lists }
         ensures no_memory { result ≢ Err Refusal.Memory }
     {
-        if self.syncs.get(sync).is_none() {
+        if self.syncs.remove(sync).is_none() {
             return Err(Refusal::Stranger);
         }
-        let _ = self.syncs.remove(sync);
         Ok(())
     }
 }

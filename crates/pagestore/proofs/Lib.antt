@@ -10,6 +10,7 @@ pub mod Victims
 pub mod Accesses
 pub mod TaggedFrames
 pub mod ReadFrames
+pub mod Flags
 pub mod FlushPicks
 pub mod SyncPicks
 pub mod SyncTags

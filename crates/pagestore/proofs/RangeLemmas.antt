@@ -58,12 +58,12 @@ with-itself s f = let all = set-get_or s.files f no_file in
 
 -- ---- counts
 
-count-alike : (p q : ℕ → Bool) (a n : ℕ) → ((k : ℕ) → a ≤ k → p k ≡ q k)
+pub count-within : (p q : ℕ → Bool) (a n : ℕ) → ((k : ℕ) → a ≤ k → k < a + n → p k ≡ q k)
     → count_by p (range_with_len a n) ≡ count_by q (range_with_len a n)
-count-alike p q a zero h = refl
-count-alike p q a (suc n) h =
-    let rest = count-alike p q (a + 1) n (λ k l. h k (omega arith)) in
-    sum_by-cons (λ x. cond (p x) 1 0) a (range_with_len (a + 1) n) ∙ (λ i. cond (h a (omega arith) i) 1 0 + rest i)
+count-within p q a zero h = refl
+count-within p q a (suc n) h =
+    let rest = count-within p q (a + 1) n (λ k l b. h k (omega arith) (omega arith)) in
+    sum_by-cons (λ x. cond (p x) 1 0) a (range_with_len (a + 1) n) ∙ (λ i. cond (h a (omega arith) (omega arith) i) 1 0 + rest i)
     ∙ sym (sum_by-cons (λ x. cond (q x) 1 0) a (range_with_len (a + 1) n))
 
 pub count-first : (p : ℕ → Bool) (first end : ℕ) → first < end → count_by p (range_with_len first (end - first))
@@ -251,18 +251,21 @@ module _ (P f o : ℕ) (b : List ℕ) (first end : ℕ) (old : Store) (less : fi
     past_first : (q : ℕ) → first + 1 ≤ q → eqb q first ≡ false
     past_first q h = grind (arith, nat_tests)
 
+    pub mid_later : (q : ℕ) → first + 1 ≤ q → stored_page mid f q ≡ stored_page old f q
+    mid_later q h = mid_other q (past_first q h)
+
     one_here : ◌≡◌ {A = ℕ} (cond (absent old f first) 1 0) 1
     one_here = ap (λ (o : Option Page). cond (not (is_some o)) 1 0) gone
 
     same_count : count_by (absent mid f) (range_with_len (first + 1) (end - (first + 1))) ≡ count_by (absent old f)
         (range_with_len (first + 1) (end - (first + 1)))
-    same_count = count-alike (absent mid f) (absent old f) (first + 1) (end - (first + 1))
-        (λ q h. ap (λ (o : Option Page). not (is_some o)) (mid_other q (past_first q h)))
+    same_count = count-within (absent mid f) (absent old f) (first + 1) (end - (first + 1))
+        (λ q h _. ap (λ (o : Option Page). not (is_some o)) (mid_later q h))
 
     same_absent : filter (absent mid f) (range_with_len (first + 1) (end - (first + 1)))
         ≡ filter (absent old f) (range_with_len (first + 1) (end - (first + 1)))
     same_absent = filter-alike (absent mid f) (absent old f) (first + 1) (end - (first + 1))
-        (λ q h. ap (λ (o : Option Page). not (is_some o)) (mid_other q (past_first q h)))
+        (λ q h. ap (λ (o : Option Page). not (is_some o)) (mid_later q h))
 
     first_absent : filter (absent old f) (range_with_len first (end - first)) ≡ first
         ∷ filter (absent old f) (range_with_len (first + 1) (end - (first + 1)))

@@ -1,5 +1,5 @@
 -- A page whose frame is known, as a read finds it: whether it is cached, its bytes, and the store once it was accessed.
-use Rattle.std.proofs.Common.{◌≡◌, ◌<◌, Bool, true, false, ap, sym, subst, ◌∙◌, refl, arith}
+use Rattle.std.proofs.Common.{◌≡◌, ◌<◌, Bool, List, cond, true, false, not, ap, sym, subst, ◌∙◌, refl, arith}
 use Rattle.std.specs.Prelude.{Some, None, is_some, option_map, slice_index_or, length}
 use Rattle.std.specs.FinMap as finmap
 use Rattle.pc_types.specs.declared.ids.FrameId.{FrameId}
@@ -11,9 +11,9 @@ use Rattle.mapping.proofs.PageLemmas.{none_framed}
 use Rattle.pagestore.specs.declared.kept.KeptFile.{KeptFile}
 use Rattle.machine.specs.PageLists.{accessed}
 use Rattle.machine.specs.State.{Page}
-use Rattle.pagestore.specs.Store.{the_page, Store, IsStore, has_page, is_uptodate, store_of, kept_at}
+use Rattle.pagestore.specs.Store.{the_page, Store, IsStore, awaits, has_page, is_awaited, is_uptodate, store_of, kept_at}
 use Rattle.pagestore.specs.Store.{entry_at, stored_at, stored_page, with_lists}
-use Rattle.pagestore.proofs.StoreLaws.{cached_at, page_seen, none_seen}
+use Rattle.pagestore.proofs.StoreLaws.{cached_at, page_seen, none_seen, waits_at}
 use Rattle.pagestore.proofs.PagePlaces.{FilePage, file_entry, file_here}
 use Rattle.pagestore.proofs.StoreFacts.{page_taken, page_within, the_page_is, accessed_seen, accessed_store}
 use Rattle.pagestore.proofs.FrameEntries.{framed, framed_entry}
@@ -48,6 +48,14 @@ module _ (w : FilePage) where
         (none ∙ ap (λ (k : KeptFile). option_map frame_of (finmap.get k.mapping.pages p)) entry) in
         sym (ap (has_page up) absent) ∙ cached_at t up files f p ∙ ap (λ (s : Store). is_some (stored_page s f p)) is
 
+    -- it is not filling either
+    pub walked_idle : None ≡ option_map frame_of (finmap.get k.mapping.pages p) → is_awaited store f p ≡ false
+    walked_idle none =
+        let absent =
+        none_framed (entry_at files f p)
+        (none ∙ ap (λ (k : KeptFile). option_map frame_of (finmap.get k.mapping.pages p)) entry) in
+        ap (λ (s : Store). is_awaited s f p) (sym is) ∙ waits_at t up files f p ∙ ap (awaits up) absent
+
     pub walked_entry : (frame : FrameId) → Some frame ≡ option_map frame_of (finmap.get k.mapping.pages p)
         → entry_at files f p ≡ Some (framed (entry_at files f p) frame)
     walked_entry frame found =
@@ -77,6 +85,24 @@ module _ (w : FilePage) where
     frame_bytes ready =
         sym (ap (λ (page : Page). page.bytes) (sym (ap (λ (s : Store). the_page (stored_at s f).pages p) is)
         ∙ the_page_is t up files dirty f p x s here there ready))
+
+    -- a read of the frame told its flag, by the flags of all frames
+    module _ (ready : Bool) (flags : List Bool) (told : ready ≡ slice_index_or flags frame.0 false) (same : flags ≡ up) where
+      flag_is : ready ≡ slice_index_or up frame.0 false
+      flag_is = told ∙ ap (λ (u : List Bool). slice_index_or u frame.0 false) same
+
+      pub read_stops : (b : Bool) → ready ≡ b
+          → cond b None (Some p) ≡ cond (not (is_some (stored_page store f p))) (Some p) None
+      read_stops true e = sym (ap (λ b. cond (not b) (Some p) None) (sym frame_cached ∙ sym flag_is ∙ e))
+      read_stops false e = sym (ap (λ b. cond (not b) (Some p) None) (sym frame_cached ∙ sym flag_is ∙ e))
+
+      pub read_waits : ready ≡ false → is_awaited store f p ≡ true
+      read_waits unready =
+          ap (λ (s : Store). is_awaited s f p) (sym is) ∙ waits_at t up files f p ∙ ap (awaits up) there
+          ∙ ap not (sym flag_is ∙ unready)
+
+      pub read_bytes : ready ≡ true → row_at t.bytes frame.0 ≡ (the_page (stored_at store f).pages p).bytes
+      read_bytes e = frame_bytes (sym flag_is ∙ e)
 
     pub read_seen : store_of (table.accessed t frame.0) up files
         ≡ with_lists store (accessed f p store.lists)

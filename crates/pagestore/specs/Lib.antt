@@ -3,4 +3,5 @@ pub mod Counts
 pub mod Cuts
 pub mod Filling
 pub mod Ranges
+pub mod Reads
 pub mod Syncing

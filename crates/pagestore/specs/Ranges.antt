@@ -1,10 +1,10 @@
 -- Words of the contracts: pages read and written one after the other.
-use Rattle.std.specs.Prelude.{◌≡◌, ◌+◌, ◌-◌, ◌/◌, ◌%◌, ◌<◌, ◌≤◌, slice_index, true, false, length, take, drop, ◌++◌, ℕ, List, []}
+use Rattle.std.specs.Prelude.{◌≡◌, ◌+◌, ◌-◌, ◌/◌, ◌%◌, ◌<◌, ◌≤◌, slice_index, slice_index_or, Bool, true, false, length, take, drop, ◌++◌, ℕ, List, []}
 use Rattle.std.specs.Prelude.{Option, Some, option_map, unwrap_or, if◌then◌else◌, nat_le, nat_lt, ◌&&◌, is_some, not, count_by}
 use Rattle.std.specs.List.{range_with_len}
 use Rattle.std.specs.Ordering.{nat_cmp}
 use Rattle.std.specs.FinMap.{FinMap, get}
-use Rattle.machine.specs.State.{Page}
+use Rattle.machine.specs.State.{File, Page, no_file}
 use Rattle.machine.specs.PageLists.{each_entered}
 use Rattle.pagestore.specs.Store.{Store, absent_pages, stored_at, stored_page, the_page, with_lists, with_pages}
 use Rattle.machine.specs.Changes.{written_page}
@@ -23,6 +23,12 @@ pub record HasAbsent (f first end : ℕ) (s : Store) : Type 0 where
   pub from : first ≤ page
   pub before : page < end
   pub absent : is_some (stored_page s f page) ≡ false
+
+-- the flags that are set are those of the cached pages of file f from `first` up to `end`, and all of these have one
+pub record AreFlags (flags : List Bool) (files : List File) (f first end : ℕ) : Type 0 where
+  pub long : end - first ≤ length flags
+  pub each : (k : ℕ) → slice_index_or flags k false
+      ≡ (nat_lt k (end - first) && is_some (get (slice_index_or files f no_file).pages (first + k)))
 
 -- each cached page has P bytes
 pub record AreSized (P : ℕ) (pages : FinMap nat_cmp Page) : Type 0 where

@@ -6,7 +6,7 @@ ghost use Rattle.std.specs.FinMap as map;
 ghost use Rattle.pc_types.specs.declared.tags.Tag.TheVariants.{Dirty};
 ghost use Rattle.mapping.specs.Pages.{frame_of, has_at};
 ghost use Rattle.pc_types.specs.TagBits.{tag_set};
-ghost use Rattle.pagestore.specs.Store.{none_kept, has_page, is_untagged, is_idle_entry};
+ghost use Rattle.pagestore.specs.Store.{awaits, none_kept, has_page, is_untagged, is_idle_entry};
 
 use crate::counts::has_more;
 use frames::Frames;
@@ -40,6 +40,16 @@ impl KeptFile {
     {
         match self.mapping.frame(PageIndex(page)) {
             Some(frame) => is_uptodate(uptodate, frame),
+            None => false,
+        }
+    }
+
+    /// Whether the page has an entry, and its frame waits for the page's bytes.
+    pub fn is_awaited(&self, uptodate: &[bool], page: u64) -> bool
+        ensures { result ≡ awaits uptodate.now (map.get self.now.mapping.pages page) }
+    {
+        match self.mapping.frame(PageIndex(page)) {
+            Some(frame) => !is_uptodate(uptodate, frame),
             None => false,
         }
     }

@@ -24,5 +24,5 @@ mod span;
 
 pub use counts::has_more;
 pub use layout::Layout;
-pub use pages::Pages;
+pub use pages::{Pages, Reading};
 pub use span::Span;

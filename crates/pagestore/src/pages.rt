@@ -1,6 +1,6 @@
 //! The pages of all files: each in a frame of its own, by its file's mapping.
 
-ghost use Rattle.std.specs.Prelude.{◌≡◌, ℕ, ◌+◌, ◌-◌, ◌<◌, ◌≤◌, ◌^◌, ◌++◌, IfOk, OnOk, OnErr, length, true, false, not, is_some, option_map, find, count_by, nat_lt, slice_index_or, slice_set, slice_range, take, drop, sum_by, [], ◌∷◌, IsOkUnless, Some, None, cond, ◌||◌};
+ghost use Rattle.std.specs.Prelude.{◌≡◌, ℕ, ◌+◌, ◌-◌, ◌<◌, ◌≤◌, ◌^◌, ◌++◌, IfNone, IfOk, IfSome, OnOk, OnErr, if◌then◌else◌, length, true, false, not, is_some, option_map, find, count_by, nat_lt, slice_index_or, slice_set, slice_range, take, drop, sum_by, [], ◌∷◌, IsOkUnless, Some, None, cond, ◌||◌};
 ghost use Rattle.std.specs.List.{range_with_len};
 ghost use Rattle.std.specs.FinMap as map;
 ghost use Rattle.std.specs.FinSet as set;
@@ -12,6 +12,7 @@ ghost use Rattle.pc_types.specs.TagBits.{tag_set};
 ghost use Rattle.machine.specs.State.{no_file, dirty_in, tags_of};
 ghost use Rattle.pagestore.specs.Store.{the_page, blank, stored_at, stored_page, is_awaited, with_pages, with_lists};
 ghost use Rattle.pagestore.specs.Ranges.{dirtied, with_part};
+ghost use Rattle.pagestore.specs.Reads.{TellsWaits, stop_of};
 ghost use Rattle.machine.specs.PageLists.{no_lists, is_listed, entered, left, accessed};
 
 use crate::counts::{count_over, has_more};
@@ -34,6 +35,17 @@ pub struct Pages {
     pub(crate) dirty: u64,
     // of the pages that were read
     pub(crate) guesses: Guesses,
+}
+
+/// How a read of pages ends.
+#[derive(Clone, Copy)]
+pub enum Reading {
+    /// The bytes were read.
+    Done,
+    /// This page is the first that is not cached, and it is filling.
+    Filling(u64),
+    /// This page is the first that is not cached, and it is not filling either.
+    Absent(u64),
 }
 
 impl Model for Pages {
@@ -128,6 +140,14 @@ impl Pages {
         self.files[file as usize].is_cached(&self.uptodate, page)
     }
 
+    /// Whether the page is filling.
+    pub(crate) fn is_awaited(&self, file: u64, page: u64) -> bool
+        requires { file < length self.now.files }
+        ensures { result ≡ is_awaited self.now file page }
+    {
+        self.files[file as usize].is_awaited(&self.uptodate, page)
+    }
+
     /// The first page from `first` up to `end` that is not cached.
     pub fn first_absent(&self, file: u64, first: u64, end: u64) -> Option<u64>
         requires here { file < length self.now.files }
@@ -138,14 +158,14 @@ impl Pages {
         (first..end).find(|page| !self.is_cached(file, *page))
     }
 
-    /// Whether fewer frames are free than pages from `first` up to `end` are not cached. It looks up no more pages than tell.
-    pub fn lacks_frames(&self, file: u64, first: u64, end: u64) -> bool
-        requires here { file < length self.now.files }
+    /// Whether fewer frames are free than pages from `first` up to `end` are not cached, by the flags of these pages.
+    pub fn lacks_frames(&self, first: u64, end: u64, cached: &[bool]) -> bool
         requires order { first ≤ end }
-        ensures { result ≡ nat_lt self.now.free (count_by (λ p. not (is_some (stored_page self.now file p))) (range_with_len first (end - first))) }
+        requires long { end - first ≤ length cached.now }
+        ensures { result ≡ nat_lt self.now.free (count_by (λ p. not (slice_index_or cached.now (p - first) false)) (range_with_len first (end - first))) }
     {
         has_more(first, end, self.free_frames(), |page| {
-            !self.is_cached(file, page)
+            !cached[(page - first) as usize]
         })
     }
 
@@ -282,39 +302,47 @@ impl Pages {
         true
     }
 
-    /// Copies bytes of a page from `at` on into `out`, and notes that the page was read: one look-up. Answers whether the page is
-    /// cached; where it is not, nothing is done.
-    pub fn read_within(&mut self, file: u64, page: u64, at: usize, out: &mut [u8]) -> bool
+    /// Copies bytes of a page from `at` on into `out`, and notes that the page was read: one look-up. Where the page is not cached,
+    /// nothing is done.
+    pub fn read_within(&mut self, file: u64, page: u64, at: usize, out: &mut [u8]) -> Reading
         requires here { file < length self.old.files }
         requires there { at + length out.old ≤ self.old.page }
-        ensures cached { result ≡ is_some (stored_page self.old file page) }
-        ensures read { result ≡ true → out.new ≡ slice_range (the_page (stored_at self.old file).pages page).bytes at (at + length out.old) }
-        ensures moved { result ≡ true → self.new ≡ with_lists self.old (accessed file page self.old.lists) }
-        ensures kept { result ≡ false → out.new ≡ out.old }
-        ensures same { result ≡ false → self.new ≡ self.old }
+        ensures stop { stop_of result ≡ (if not (is_some (stored_page self.old file page)) then Some page else None) }
+        ensures awaited { TellsWaits result (is_awaited self.old file) }
+        ensures read { IfNone (stop_of result) (out.new ≡ slice_range (the_page (stored_at self.old file).pages page).bytes at (at + length out.old)) }
+        ensures moved { IfNone (stop_of result) (self.new ≡ with_lists self.old (accessed file page self.old.lists)) }
+        ensures kept { IfSome (stop_of result) (λ _. out.new ≡ out.old) }
+        ensures same { IfSome (stop_of result) (λ _. self.new ≡ self.old) }
     {
-        match self.guesses.frame(&self.frames, file, page) {
-            Some(frame) => read_frame(&mut self.frames, &self.uptodate, frame, at, out),
-            None => self.read_walked(file, page, at, out),
+        let Some(frame) = self.guesses.frame(&self.frames, file, page) else {
+            return self.read_walked(file, page, at, out);
+        };
+        if read_frame(&mut self.frames, &self.uptodate, frame, at, out) {
+            return Reading::Done;
         }
+        Reading::Filling(page)
     }
 
     /// The same by a walk, which makes the next guess right.
     #[inline(never)]
-    fn read_walked(&mut self, file: u64, page: u64, at: usize, out: &mut [u8]) -> bool
+    fn read_walked(&mut self, file: u64, page: u64, at: usize, out: &mut [u8]) -> Reading
         requires here { file < length self.old.files }
         requires there { at + length out.old ≤ self.old.page }
-        ensures cached { result ≡ is_some (stored_page self.old file page) }
-        ensures read { result ≡ true → out.new ≡ slice_range (the_page (stored_at self.old file).pages page).bytes at (at + length out.old) }
-        ensures moved { result ≡ true → self.new ≡ with_lists self.old (accessed file page self.old.lists) }
-        ensures kept { result ≡ false → out.new ≡ out.old }
-        ensures same { result ≡ false → self.new ≡ self.old }
+        ensures stop { stop_of result ≡ (if not (is_some (stored_page self.old file page)) then Some page else None) }
+        ensures awaited { TellsWaits result (is_awaited self.old file) }
+        ensures read { IfNone (stop_of result) (out.new ≡ slice_range (the_page (stored_at self.old file).pages page).bytes at (at + length out.old)) }
+        ensures moved { IfNone (stop_of result) (self.new ≡ with_lists self.old (accessed file page self.old.lists)) }
+        ensures kept { IfSome (stop_of result) (λ _. out.new ≡ out.old) }
+        ensures same { IfSome (stop_of result) (λ _. self.new ≡ self.old) }
     {
         let Some(frame) = self.files[file as usize].mapping.frame(PageIndex(page)) else {
-            return false;
+            return Reading::Absent(page);
         };
         self.guesses.note(file, page, frame);
-        read_frame(&mut self.frames, &self.uptodate, frame, at, out)
+        if read_frame(&mut self.frames, &self.uptodate, frame, at, out) {
+            return Reading::Done;
+        }
+        Reading::Filling(page)
     }
 
     /// Copies a part of a cached page's bytes to a part of `out`, and notes that the page was read.

@@ -1,9 +1,11 @@
 -- The requests in flight, and what becomes of them. A request, what one fills and what a sync awaits are those of the
 -- machine.
-use Rattle.std.specs.Prelude.{ℕ, ◌+◌, Bool, ◌||◌, nat_le, Option, find, refl}
+use Rattle.std.specs.Prelude.{ℕ, ◌+◌, Bool, ◌&&◌, ◌||◌, ◌==◌, nat_le, if◌then◌else◌, Option, Some, None, find, refl}
 use Rattle.std.specs.Coded.{Coded, code_by, coded×, coded_ℕ}
 use Rattle.std.specs.Ordering.{nat_cmp}
 use Rattle.std.specs.FinMap as map
+use Rattle.pc_types.specs.Kinds.{same_kind}
+use Rattle.pc_types.specs.declared.kind.Kind.{Kind}
 use Rattle.pc_types.specs.declared.limits.TheConstants.{MAX_IN_FLIGHT, SERIAL_END}
 use Rattle.machine.specs.State.{Request, Sync, awaits}
 use Rattle.machine.specs.inside.Codes.{request_code}
@@ -24,6 +26,11 @@ begun t x = record { next = t.next + 1; requests = map.insert t.requests t.next 
 -- the request with this serial ends
 abbrev pub ended : Flights → ℕ → Flights
 ended t serial = record t { requests = map.remove t.requests serial }
+
+-- a request of this kind, whose device call is of this block
+abbrev pub of_call : Kind → ℕ → Option Request → Option Request
+of_call kind block None = None
+of_call kind block (Some x) = if same_kind kind x.kind && block == x.block then Some x else None
 
 -- the first request that a sync of file f with this bound awaits
 abbrev pub first_awaited : ℕ → Sync → ℕ → map.FinMap nat_cmp Request → Option (ℕ × Request)

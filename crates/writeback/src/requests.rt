@@ -1,13 +1,13 @@
 //! The requests in flight.
 
-ghost use Rattle.std.specs.Prelude.{◌≡◌, ℕ, ◌+◌, ◌≤◌, ◌==◌, None, ◌&&◌, false, map as map_list, count_by, find, position, option_map, nat_lt, if◌then◌else◌};
+ghost use Rattle.std.specs.Prelude.{◌≡◌, ℕ, ◌+◌, ◌≤◌, ◌==◌, None, IfNone, IfSome, ◌&&◌, false, map as map_list, count_by, find, position, option_map, nat_lt, if◌then◌else◌};
 ghost use Rattle.std.specs.FinMap as map;
 ghost use Rattle.std.specs.List.{list_any};
 ghost use Rattle.machine.specs.Changes.{cut_request};
 ghost use Rattle.pc_types.specs.Kinds.{is_fill, is_flush};
 ghost use Rattle.maps.specs.Maps.{each_value};
 ghost use Rattle.machine.specs.State.{awaits, fills};
-ghost use Rattle.writeback.specs.Flights.{begun, ended, first_awaited, is_full};
+ghost use Rattle.writeback.specs.Flights.{begun, ended, first_awaited, is_full, of_call};
 ghost use Rattle.writeback.specs.Requests.{cut_entry, entry_of, request_of};
 ghost use Rattle.writeback.specs.Slots.{sync_of};
 ghost use Rattle.writeback.specs.declared.requests.Entry.{Entry};
@@ -34,7 +34,7 @@ pub struct Request {
 
 impl Request {
     ghost use Rattle.std.specs.Prelude.{◌&&◌, ◌==◌, not};
-    ghost use Rattle.pc_types.specs.Kinds.{is_flush};
+    ghost use Rattle.pc_types.specs.Kinds.{is_flush, same_kind};
     ghost use Rattle.machine.specs.State.{fills};
     ghost use Rattle.writeback.specs.Requests.{request_of};
 
@@ -48,6 +48,13 @@ impl Request {
         ensures { result ≡ (is_flush self.now.kind && not self.now.dropped && self.now.file.0 == file.0) }
     {
         self.kind == Kind::Flush && !self.dropped && self.file == file
+    }
+
+    /// Whether it is of this kind, and its device call of this block.
+    fn is_call(&self, kind: Kind, block: BlockNo) -> bool
+        ensures { result ≡ (same_kind kind self.now.kind && block.0 == self.now.block.0) }
+    {
+        kind == self.kind && block == self.block
     }
 }
 
@@ -238,6 +245,22 @@ impl Requests {
         let entry = self.in_flight.remove(at);
         self.fills -= fills_of(entry.request.kind);
         Some(entry.request)
+    }
+
+    /// Ends the request with this serial where it is of this kind and of this block: also one that is dropped. Else nothing changes.
+    pub fn end_of(&mut self, serial: Serial, kind: Kind, block: BlockNo) -> Option<Request>
+        ensures request { option_map request_of result ≡ of_call kind block.0 (map.get self.old.requests serial.0) }
+        ensures ended { IfSome result (λ _. self.new ≡ ended self.old serial.0) }
+        ensures same { IfNone result (self.new ≡ self.old) }
+    {
+        let at = position_of(&self.in_flight, serial)?;
+        let request = self.in_flight[at].request;
+        if !request.is_call(kind, block) {
+            return None;
+        }
+        let _ = self.in_flight.remove(at);
+        self.fills -= fills_of(request.kind);
+        Some(request)
     }
 
     /// Drops the requests of the pages of `file` from `page` on. They stay in flight, and keep their blocks.

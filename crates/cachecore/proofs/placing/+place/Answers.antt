@@ -37,7 +37,7 @@ place-requires t c =
     let room =
     subst (λ n. n ≤ length (free_blocks b))
     (count_past b c.args.span.file c.args.next c.args.span.end less (ap not (sym has))) c.requires.room in
-    (omega (arith, less), (c.requires.file, (c.requires.here, (c.requires.size, (c.requires.positive, (c.requires.small, (c.requires.some, (c.requires.bound, (c.requires.from, (omega (arith, c.requires.begun), (omega (arith, less), (c.requires.to, (c.requires.below, (c.requires.sized, (c.requires.idle, (c.requires.frames, room))))))))))))))))
+    (omega (arith, less), (c.requires.file, (c.requires.here, (c.requires.size, (c.requires.positive, (c.requires.small, (c.requires.some, (c.requires.bound, (c.requires.from, (omega (arith, c.requires.begun), (omega (arith, less), (c.requires.to, (c.requires.below, (c.requires.sized, (c.requires.idle, (c.requires.flags, (c.requires.frames, room)))))))))))))))))
 
 pub returns-then-is_some-clause-placed : goal.returns-then-is_some-clause-placed
 returns-then-is_some-clause-placed t c =
@@ -57,7 +57,7 @@ place-rest-requires t c =
     let given : IsGiven b c.args.span.file c.args.next c.assign.new.self =
     is_given b c.assign.new.self c.args.span.file c.args.next c.assign.result none c.if-is_err.ensures.value
     c.assign.ensures.lowest c.assign.ensures.given in
-    (omega (arith, less), (c.requires.file, (c.requires.here, (c.requires.size, (c.requires.positive, (c.requires.small, (c.requires.some, (c.requires.bound, (c.requires.from, (omega (arith, c.requires.begun), (omega (arith, less), (c.requires.to, (c.requires.below, (c.requires.sized, (c.requires.idle, (c.requires.frames, room_given b c.assign.new.self c.args.span.file c.args.next c.args.span.end less given c.requires.room))))))))))))))))
+    (omega (arith, less), (c.requires.file, (c.requires.here, (c.requires.size, (c.requires.positive, (c.requires.small, (c.requires.some, (c.requires.bound, (c.requires.from, (omega (arith, c.requires.begun), (omega (arith, less), (c.requires.to, (c.requires.below, (c.requires.sized, (c.requires.idle, (c.requires.flags, (c.requires.frames, room_given b c.assign.new.self c.args.span.file c.args.next c.args.span.end less given c.requires.room)))))))))))))))))
 
 pub unassign-requires-clause-unwritten : goal.unassign-requires-clause-unwritten
 unassign-requires-clause-unwritten t c =

@@ -1,6 +1,6 @@
 use Rattle.std.proofs.Common.{true, false, arith, sym, ap, subst, ◌∙◌, ◌≡◌, ◌<◌, ◌≤◌, ◌++◌, ℕ, length}
 use Rattle.std.proofs.Common.{take, drop}
-use Rattle.std.specs.Prelude.{slice_index_or}
+use Rattle.std.specs.Prelude.{IfNone, IfSome, slice_index_or}
 use Rattle.std.specs.FinMap as map
 use Rattle.std.proofs.lemmas.Bool.{eqb-false}
 use Rattle.std.proofs.lemmas.List.{length-take}
@@ -11,12 +11,17 @@ use Rattle.machine.specs.declared.event.Event.TheVariants as event
 use Rattle.machine.specs.declared.event.Reply.TheVariants as reply
 use Rattle.machine.specs.Step.{Step}
 use Rattle.pagestore.specs.Store.{Store}
-use Rattle.cachecore.specs.Tables.{state_of}
+use Rattle.pagestore.specs.Reads.{stop_of}
+use Rattle.pagestore.specs.declared.pages.Reading.{Reading}
+use Rattle.pagestore.specs.declared.pages.Reading.TheVariants.{Absent, Done, Filling}
+use Rattle.cachecore.specs.Replies.{was_read}
+use Rattle.cachecore.specs.Tables.{IsCache, state_of}
+use Rattle.cachecore.proofs.CoreLemmas.{core-lists}
 use Rattle.cachecore.proofs.StepLemmas.{ReadFacts, bytes_step, first_absent, read_too_long, stop_step}
 use Rattle.pagestore.proofs.Spans.{is_less, not_less}
 use Rattle.cachecore.proofs.CoreViews.{state_is}
 use Rattle.cachecore.proofs.cache.CacheCore.read.Goals as goal
-use Rattle.cachecore.proofs.cache.CacheCore.read.Goals.{After-is_too_long, Else-is_too_long}
+use Rattle.cachecore.proofs.cache.CacheCore.read.Goals.{After-is_too_long, Else-is_too_long, in-Absent, in-Done, in-Filling}
 
 abbrev entry : After-is_too_long → File
 entry c = slice_index_or c.self.inside.pages.files c.in-Some.file no_file
@@ -51,61 +56,64 @@ returns-then-is_too_long-clause-step c =
     (is_less MAX_TOUCHED (touched_count c.page-page_size.result c.args.offset c.min-count.result)
     (sym c.is_too_long.ensures ∙ c.if-is_too_long.true))
 
-pub returns-then-is_filling-clause-step : goal.returns-then-is_filling-clause-step
-returns-then-is_filling-clause-step c =
-    let at = goal.at.returns-then-is_filling-clause-step c in
-    let all = at.After-is_too_long in
-    let count = c.min-count.result in
-    let after =
-    ap (λ (p : Store). state_of c.self.inside.geometry c.self.inside.name p.files c.self.inside.handles
-    c.self.inside.blocks c.self.inside.requests c.self.inside.syncs) c.in-Some-read.ensures.same
-    ∙ state_is c.self.view_is in
-    subst (λ (s : State). Step c.args.self.now.state (event.Read c.args.handle c.args.offset (length c.args.out.now))
-    (reply.Wait (record { 0 = c.in-Some-read.page })) s) (sym after)
-    (stop_step c.args.self.now.state c.args.handle c.args.offset (length c.args.out.now) c.in-Some.file
-    c.page-page_size.result count (entry all) (facts all) (short at.Else-is_too_long)
-    c.in-Some-read.page true (sym c.if-is_filling.true ∙ c.is_filling.ensures
-    ∙ ap (λ (s : State). is_filling s c.in-Some.file c.in-Some-read.page) after)
-    (c.in-Some-read.ensures.absent
-    ∙ ap (first_absent (entry all) c.page-page_size.result c.args.offset) (size all)))
+-- what holds of the pages as they were, and of the ones that were read, holds after a read
+either_end : (r : Reading) (old moved now : Store) (Q : Store → Type 0) → IfSome (stop_of r) (λ _. now ≡ old)
+    → IfNone (stop_of r) (now ≡ moved) → Q old → Q moved → Q now
+either_end Done old moved now Q same is a b = subst Q (sym is) b
+either_end (Filling p) old moved now Q same is a b = subst Q (sym same) a
+either_end (Absent p) old moved now Q same is a b = subst Q (sym same) a
+
+pub invariant_of-self : goal.invariant_of-self
+invariant_of-self c =
+    let i = c.self.inside in
+    either_end c.read.result i.pages _ c.read.new.self
+    (λ (p : Store). IsCache (state_of i.geometry i.name p.files i.handles i.blocks i.requests i.syncs) p i.blocks)
+    c.read.ensures.same c.read.ensures.moved c.self.invariant
+    (record { core = core-lists c.self.invariant.core _; syncs = c.self.invariant.syncs })
 
 pub returns-clause-step : goal.returns-clause-step
 returns-clause-step c =
     let at = goal.at.returns-clause-step c in
     let all = at.After-is_too_long in
+    let i = c.self.inside in
+    let s = c.args.self.now.state in
+    let n = length c.args.out.now in
+    let e = event.Read c.args.handle c.args.offset n in
+    let f = c.in-Some.file in
+    let P = c.page-page_size.result in
     let count = c.min-count.result in
-    let after =
-    ap (λ (p : Store). state_of c.self.inside.geometry c.self.inside.name p.files c.self.inside.handles
-    c.self.inside.blocks c.self.inside.requests c.self.inside.syncs) c.in-Some-read.ensures.same
-    ∙ state_is c.self.view_is in
-    subst (λ (s : State). Step c.args.self.now.state (event.Read c.args.handle c.args.offset (length c.args.out.now))
-    (reply.Miss (record { 0 = c.in-Some-read.page })) s) (sym after)
-    (stop_step c.args.self.now.state c.args.handle c.args.offset (length c.args.out.now) c.in-Some.file
-    c.page-page_size.result count (entry all) (facts all) (short at.Else-is_too_long)
-    c.in-Some-read.page false (sym c.if-is_filling.false ∙ c.is_filling.ensures
-    ∙ ap (λ (s : State). is_filling s c.in-Some.file c.in-Some-read.page) after)
-    (c.in-Some-read.ensures.absent
-    ∙ ap (first_absent (entry all) c.page-page_size.result c.args.offset) (size all)))
-
-pub returns-in_default-read-clause-step : goal.returns-in_default-read-clause-step
-returns-in_default-read-clause-step c =
-    let at = goal.at.returns-in_default-read-clause-step c in
-    let all = at.After-is_too_long in
-    let count = c.min-count.result in
-    let long : length c.read.new.out ≡ count = omega (arith, length-take count c.args.out.now, c.min-count.ensures) in
-    let after =
-    ap (λ (p : Store). state_of c.self.inside.geometry c.self.inside.name p.files c.self.inside.handles
-    c.self.inside.blocks c.self.inside.requests c.self.inside.syncs) c.in_default-read.ensures.moved
-    ∙ state_is c.self.view_is in
-    let none = c.in_default-read.ensures.absent
-    ∙ ap (first_absent (entry all) c.page-page_size.result c.args.offset) (size all) in
-    subst (λ (s : State). Step c.args.self.now.state (event.Read c.args.handle c.args.offset (length c.args.out.now))
-    (reply.Bytes (take count (c.read.new.out ++ drop count c.args.out.now))) s) (sym after)
-    (bytes_step c.args.self.now.state c.args.handle c.args.offset (length c.args.out.now) c.in-Some.file
-    c.page-page_size.result count (entry all) (facts all) (short at.Else-is_too_long)
-    c.read.new.out (drop count c.args.out.now) none long
-    (subst (λ (n : ℕ). AreRead c.page-page_size.result c.args.offset (entry all).pages n c.read.new.out) long
-    c.in_default-read.ensures.read))
+    let out = c.read.new.out ++ drop count c.args.out.now in
+    let state = λ (p : Store). state_of i.geometry i.name p.files i.handles i.blocks i.requests i.syncs in
+    elim c.match-read.branch [
+      | in-Done w ↦
+          let long : length c.read.new.out ≡ count =
+          omega (arith, length-take count c.args.out.now, c.min-count.ensures, c.read.auto.out) in
+          let after = ap state w.in-Done.ensures.moved ∙ state_is c.self.view_is in
+          let none = w.in-Done.ensures.stop ∙ ap (first_absent (entry all) P c.args.offset) (size all) in
+          subst (λ r. Step s e (was_read r out) (state c.read.new.self)) (sym w.result-is)
+          (subst (λ (t : State). Step s e (reply.Bytes (take count out)) t) (sym after)
+          (bytes_step s c.args.handle c.args.offset n f P count (entry all) (facts all) (short at.Else-is_too_long)
+          c.read.new.out (drop count c.args.out.now) none long
+          (subst (λ (k : ℕ). AreRead P c.args.offset (entry all).pages k c.read.new.out) long w.in-Done.ensures.read)))
+      | in-Filling w ↦
+          let p = w.in-Filling.page in
+          let after = ap state w.in-Filling.ensures.same ∙ state_is c.self.view_is in
+          subst (λ r. Step s e (was_read r out) (state c.read.new.self)) (sym w.result-is)
+          (subst (λ (t : State). Step s e (reply.Wait (record { 0 = p })) t) (sym after)
+          (stop_step s c.args.handle c.args.offset n f P count (entry all) (facts all) (short at.Else-is_too_long) p true
+          (sym w.in-Filling.ensures.awaited ∙ c.self.invariant.core.filling f p
+          ∙ ap (λ (t : State). is_filling t f p) (state_is c.self.view_is))
+          (w.in-Filling.ensures.stop ∙ ap (first_absent (entry all) P c.args.offset) (size all))))
+      | in-Absent w ↦
+          let p = w.in-Absent.page in
+          let after = ap state w.in-Absent.ensures.same ∙ state_is c.self.view_is in
+          subst (λ r. Step s e (was_read r out) (state c.read.new.self)) (sym w.result-is)
+          (subst (λ (t : State). Step s e (reply.Miss (record { 0 = p })) t) (sym after)
+          (stop_step s c.args.handle c.args.offset n f P count (entry all) (facts all) (short at.Else-is_too_long) p false
+          (sym w.in-Absent.ensures.awaited ∙ c.self.invariant.core.filling f p
+          ∙ ap (λ (t : State). is_filling t f p) (state_is c.self.view_is))
+          (w.in-Absent.ensures.stop ∙ ap (first_absent (entry all) P c.args.offset) (size all))))
+    ]
 
 pub read-requires-clause-bound : goal.read-requires-clause-bound
 read-requires-clause-bound c =

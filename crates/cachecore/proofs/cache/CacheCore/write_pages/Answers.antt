@@ -8,6 +8,7 @@ use Rattle.machine.specs.ListChanges.{lists_written}
 use Rattle.machine.specs.Step.{wants_memory}
 use Rattle.machine.specs.Tests.{write_tests}
 use Rattle.pagestore.specs.Ranges.{AreSized, IsLaid}
+use Rattle.pagestore.proofs.Flags.{flags_set}
 use Rattle.pagestore.proofs.RangeLemmas.{on_err_of}
 use Rattle.pagestore.specs.Store.{Store, stored_at, with_lists, with_pages}
 use Rattle.pagestore.specs.Syncing.{failed_of}
@@ -18,6 +19,8 @@ use Rattle.cachecore.proofs.WriteSteps.{WriteSteps, laid_noted, parts, final_fil
 use Rattle.cachecore.proofs.CoreLemmas.{frames_enough, blocks_enough, none_awaited, write_state, core-written, taken}
 use Rattle.cachecore.proofs.SyncLaws.{kept_failed, moved_syncs}
 use Rattle.cachecore.proofs.CoreViews.{state_is}
+use Rattle.cachecore.proofs.Parts.{parts_of, state_by}
+use Rattle.cachecore.proofs.WriteFlags.{flags_by}
 use Rattle.cachecore.proofs.cache.CacheCore.write_pages.Goals as goal
 
 -- a write that is not refused, by a handle of the file
@@ -55,6 +58,11 @@ pub place-requires-clause-sized : goal.place-requires-clause-sized
 place-requires-clause-sized c =
     subst (λ (n : ℕ). AreSized n (stored_at c.self.inside.pages c.args.file).pages) (sym c.page-page_size.ensures.value)
     (c.self.invariant.core.sized c.args.file)
+
+pub place-requires-clause-flags : goal.place-requires-clause-flags
+place-requires-clause-flags c =
+    flags_by c.args.cached.now (state_by (parts_of c.self.inside)) c.args.self.now.state c.args.file c.args.offset
+    (length c.args.bytes.now) c.page-page_size.result (state_is c.self.view_is) c.page-page_size.ensures.value c.requires.flags
 
 -- what the cache keeps, and its state
 wrote : (c : goal.After-set_size) → (let a = c.self.inside in
@@ -141,10 +149,14 @@ returns-clause-lists c =
     let o = c.args.offset in
     let n = length c.args.bytes.now in
     let lists = λ (s : Store). s.lists in
+    let P = c.page-page_size.result in
+    let set = flags_set c.args.cached.now a.pages.files f (o / P) ((o + n - 1) / P + 1)
+    (flags_by c.args.cached.now (state_by (parts_of a)) c.args.self.now.state f o n P (state_is c.self.view_is)
+    c.page-page_size.ensures.value c.requires.flags) in
     written_lists (state_of a.geometry a.name a.pages.files a.handles a.blocks a.requests a.syncs) f o n a.pages.lists
-    c.page-page_size.result _ c.place.new.pages.lists c.set_size.new.self.lists c.page-page_size.ensures.value
+    P _ c.place.new.pages.lists c.set_size.new.self.lists c.page-page_size.ensures.value
     c.requires.some
-    c.which_cached-cached.ensures (ap lists c.in_ok-place.ensures.written.rest)
+    set (ap lists c.in_ok-place.ensures.written.rest)
     (ap lists c.set_size.ensures ∙ ap lists c.access_cached.ensures)
     ∙ ap (λ (k : Core). lists_written k.state f o n k.lists) c.self.view_is
 

@@ -1,6 +1,7 @@
 use Rattle.std.proofs.Common.{arith, ap, sym, refl, ℕ, ◌∙◌, ◌≡◌, ◌+◌, ◌-◌, ◌*◌, ◌<◌, ◌≤◌, [], length, false, true}
 use Rattle.std.proofs.lemmas.Bool.{or_left}
-use Rattle.std.specs.Prelude.{is_some, Some, None}
+use Rattle.std.proofs.lemmas.List.{take_rest}
+use Rattle.std.specs.Prelude.{Bool, List, is_some, slice_index_or, Some, None}
 use Rattle.std.specs.FinMap as map
 use Rattle.pc_types.proofs.FileLaws.{length-cut}
 use Rattle.pc_types.specs.Tags.{no_tags}
@@ -8,21 +9,81 @@ use Rattle.machine.specs.Changes.{written_page}
 use Rattle.machine.specs.PageLists.{left}
 use Rattle.machine.specs.State.{Page}
 use Rattle.machine.proofs.changes.WriteLengths.{length-overlay}
-use Rattle.pagestore.specs.Ranges.{HasAbsent, with_part}
+use Rattle.pagestore.specs.Ranges.{AreFlags, HasAbsent, with_part}
 use Rattle.pagestore.specs.Store.{Store, blank, is_awaited, stored_at, stored_page, the_page, with_lists, with_pages}
 use Rattle.pagestore.proofs.Overlay.{touched_above, touched_below}
 use Rattle.pagestore.proofs.PairLemmas.{on_ok, when_err, when_ok, written_part}
-use Rattle.pagestore.proofs.RangeLemmas.{ne_less, none_of, room_some, on_err_of, mid_cached, mid_here, mid_idle, mid_room}
-use Rattle.pagestore.proofs.RangeLemmas.{mid_size, mid_sized, rest_page, unmade, written_more, written_past}
+use Rattle.pagestore.proofs.Flags.{flag_first, flags_after}
+use Rattle.pagestore.proofs.RangeLemmas.{ne_less, none_of, room_some, on_err_of, mid_cached, mid_here, mid_idle, mid_later, mid_room}
+use Rattle.pagestore.proofs.RangeLemmas.{mid_size, mid_sized, rest_page, room_past, unmade, written_more, written_past}
 use Rattle.pagestore.proofs.pages.Pages.+write.Goals as goal
 
 abbrev none : Page
 none = record { bytes = []; tags = no_tags }
 
+-- ---- by the first flag
+
+unset : (flags : List Bool) (s : Store) (f p end : ℕ) → AreFlags flags s.files f p end → p < end
+    → slice_index_or flags 0 false ≡ false → false ≡ is_some (stored_page s f p)
+unset flags s f p end told less off = sym (sym (flag_first flags s.files f p end told less) ∙ off)
+
 -- ---- a page that is cached
 
-pub returns-then-is_cached-clause-written : goal.returns-then-is_cached-clause-written
-returns-then-is_cached-clause-written t c =
+pub write-requires : goal.write-requires
+write-requires t c =
+    let P = c.args.span.page_size in
+    let f = c.args.span.file in
+    let p = c.args.page in
+    let end = c.args.span.end in
+    let old = c.args.self.now in
+    let less = ne_less p end c.requires.order c.if-page-span.false in
+    let there = sym (flag_first c.args.cached.now old.files f p end c.requires.flags less) ∙ c.if-cached.true in
+    let past = room_past P f c.args.span.offset c.args.bytes.now p end old less c.requires.here there in (
+      omega (arith, less),
+      (
+        c.requires.here,
+        (
+          c.requires.size,
+          (
+            c.requires.positive,
+            (
+              c.requires.small,
+              (
+                c.requires.some,
+                (
+                  c.requires.bound,
+                  (
+                    omega (arith, c.requires.from),
+                    (
+                      omega (arith, less),
+                      (
+                        c.requires.to,
+                        (
+                          c.requires.below,
+                          (
+                            c.requires.sized,
+                            (
+                              record { each = λ q a b. c.requires.idle.each q (omega arith) b },
+                              (
+                                flags_after c.args.cached.now old.files f p end c.requires.flags _ old.files (take_rest c.args.cached.now 1) less (λ q h. refl),
+                                omega (arith, past, c.requires.room),
+                              ),
+                            ),
+                          ),
+                        ),
+                      ),
+                    ),
+                  ),
+                ),
+              ),
+            ),
+          ),
+        ),
+      ),
+    )
+
+pub returns-then-cached-clause-written : goal.returns-then-cached-clause-written
+returns-then-cached-clause-written t c =
     let P = c.args.span.page_size in
     let f = c.args.span.file in
     let o = c.args.span.offset in
@@ -41,7 +102,7 @@ returns-then-is_cached-clause-written t c =
     let at = c.part-at.result.0 in
     let part = c.part-at.result.1.now in
     let mid = c.write.new.self in
-    let there = sym c.if-is_cached.ensures in
+    let there = sym (flag_first c.args.cached.now old.files f p end c.requires.flags less) ∙ c.if-cached.true in
     let h = c.in_ok-write.ensures.written in
     let page_is : with_part (the_page (stored_at mid f).pages p) at part
     ≡ written_page P o b p (map.get (stored_at old f).pages p) =
@@ -56,7 +117,8 @@ returns-then-is_cached-clause-written t c =
 pub make_with-requires-clause-room : goal.make_with-requires-clause-room
 make_with-requires-clause-room t c =
     let less = ne_less c.args.page c.args.span.end c.requires.order c.if-page-span.false in
-    room_some c.args.self.now c.args.span.file c.args.page c.args.span.end less (none_of _ c.if-is_cached.ensures)
+    room_some c.args.self.now c.args.span.file c.args.page c.args.span.end less
+    (none_of _ (unset c.args.cached.now c.args.self.now c.args.span.file c.args.page c.args.span.end c.requires.flags less c.if-cached.false))
     c.requires.room
 
 pub write-rest-requires : goal.write-rest-requires
@@ -79,7 +141,7 @@ write-rest-requires t c =
     let at = c.part-at.result.0 in
     let part = c.part-at.result.1.now in
     let page = with_part (blank old.page) at part in
-    let gone = none_of _ c.if-is_cached.ensures in
+    let gone = none_of _ (unset c.args.cached.now old f p end c.requires.flags less c.if-cached.false) in
     let room = room_some old f p end less gone c.requires.room in
     let mid = c.make_with.new.self in
     let is = c.in_ok-make_with.ensures.ok in
@@ -117,7 +179,12 @@ write-rest-requires t c =
                                 each = λ q a b. mid_idle P f o c.args.bytes.now p end old less c.requires.here gone room page mid is q
                                     ∙ c.requires.idle.each q (omega arith) b;
                               },
-                              mid_room P f o b p end old less c.requires.here gone room page mid is c.requires.room,
+                              (
+                                flags_after c.args.cached.now old.files f p end c.requires.flags _ mid.files
+                                    (take_rest c.args.cached.now 1) less
+                                    (λ q h. ap is_some (mid_later P f o b p end old less c.requires.here gone room page mid is q h)),
+                                mid_room P f o b p end old less c.requires.here gone room page mid is c.requires.room,
+                              ),
                             ),
                           ),
                         ),
@@ -145,7 +212,7 @@ leave-requires-clause-there t c =
     let at = c.part-at.result.0 in
     let part = c.part-at.result.1.now in
     let page = with_part (blank old.page) at part in
-    let gone = none_of _ c.if-is_cached.ensures in
+    let gone = none_of _ (unset c.args.cached.now old f p end c.requires.flags less c.if-cached.false) in
     let room = room_some old f p end less gone c.requires.room in
     let mid = c.make_with.new.self in
     let is = c.in_ok-make_with.ensures.ok in
@@ -168,7 +235,7 @@ returns-then-is_err-clause-err t c =
     let at = c.part-at.result.0 in
     let part = c.part-at.result.1.now in
     let page = with_part (blank old.page) at part in
-    let gone = none_of _ c.if-is_cached.ensures in
+    let gone = none_of _ (unset c.args.cached.now old f p end c.requires.flags less c.if-cached.false) in
     let room = room_some old f p end less gone c.requires.room in
     let mid = c.make_with.new.self in
     let is = c.in_ok-make_with.ensures.ok in
@@ -202,7 +269,7 @@ returns-else-is_err-clause-written t c =
     let at = c.part-at.result.0 in
     let part = c.part-at.result.1.now in
     let page = with_part (blank old.page) at part in
-    let gone = none_of _ c.if-is_cached.ensures in
+    let gone = none_of _ (unset c.args.cached.now old f p end c.requires.flags less c.if-cached.false) in
     let room = room_some old f p end less gone c.requires.room in
     let mid = c.make_with.new.self in
     let is = c.in_ok-make_with.ensures.ok in
@@ -215,9 +282,11 @@ returns-else-is_err-clause-written t c =
 
 -- ---- a write that is refused
 
-absent_here : (s : Store) (f p end : ℕ) → p ≤ end → (p ≡ end → ⊥) → false ≡ is_some (stored_page s f p) → HasAbsent f p end s
-absent_here s f p end order other gone =
-    record { page = p; from = omega arith; before = ne_less p end order other; absent = sym gone }
+absent_here : (flags : List Bool) (s : Store) (f p end : ℕ) → AreFlags flags s.files f p end → p ≤ end → (p ≡ end → ⊥)
+    → slice_index_or flags 0 false ≡ false → HasAbsent f p end s
+absent_here flags s f p end told order other off =
+    let less = ne_less p end order other in
+    record { page = p; from = omega arith; before = less; absent = sym (unset flags s f p end told less off) }
 
 absent_later : (s : Store) (f p end : ℕ) → HasAbsent f (p + 1) end s → HasAbsent f p end s
 absent_later s f p end h =
@@ -231,17 +300,17 @@ returns-in_err-write-clause-absent t c =
 pub returns-in_err-make_with-clause-absent : goal.returns-in_err-make_with-clause-absent
 returns-in_err-make_with-clause-absent t c =
     on_err_of c.from_residual-in_err-make_with.result _
-    (absent_here c.args.self.now c.args.span.file c.args.page c.args.span.end c.requires.order c.if-page-span.false
-    c.if-is_cached.ensures)
+    (absent_here c.args.cached.now c.args.self.now c.args.span.file c.args.page c.args.span.end c.requires.flags
+    c.requires.order c.if-page-span.false c.if-cached.false)
 
 pub returns-then-is_err-clause-absent : goal.returns-then-is_err-clause-absent
 returns-then-is_err-clause-absent t c =
     on_err_of c.write-rest.result _
-    (absent_here c.args.self.now c.args.span.file c.args.page c.args.span.end c.requires.order c.if-page-span.false
-    c.if-is_cached.ensures)
+    (absent_here c.args.cached.now c.args.self.now c.args.span.file c.args.page c.args.span.end c.requires.flags
+    c.requires.order c.if-page-span.false c.if-cached.false)
 
 pub returns-else-is_err-clause-absent : goal.returns-else-is_err-clause-absent
 returns-else-is_err-clause-absent t c =
     on_err_of c.write-rest.result _
-    (absent_here c.args.self.now c.args.span.file c.args.page c.args.span.end c.requires.order c.if-page-span.false
-    c.if-is_cached.ensures)
+    (absent_here c.args.cached.now c.args.self.now c.args.span.file c.args.page c.args.span.end c.requires.flags
+    c.requires.order c.if-page-span.false c.if-cached.false)

@@ -1,7 +1,6 @@
-use Rattle.std.proofs.Common.{arith, ap, ◌∙◌, ◌≡◌, ◌+◌, ◌-◌, ◌≤◌, length}
+use Rattle.std.proofs.Common.{arith, ap, ◌∙◌, ◌≡◌, ◌+◌, ◌-◌}
 use Rattle.std.specs.Prelude.{◌&&◌, is_some, nat_lt}
 use Rattle.pagestore.specs.Store.{stored_page}
-use Rattle.pagestore.proofs.Accesses.{flagged_filter}
 use Rattle.pagestore.proofs.pages.Pages.which_cached.Goals as goal
 
 pub returns : goal.returns
@@ -9,9 +8,8 @@ returns c =
     let first = c.args.first in
     let end : c.loop-page.page - first ≡ c.args.end - first =
     omega (arith, c.loop-page.invariant.low, c.loop-page.invariant.high, c.loop-page-test.false) in
-    let fits : c.args.end - first ≤ length c.loop-page.cached =
-    omega (arith, c.requires.few, c.loop-page.invariant.size) in
-    flagged_filter c.loop-page.cached first (c.args.end - first)
-    (λ p. is_some (stored_page c.args.self.now c.args.file p)) fits
-    (λ k. c.loop-page.invariant.each k
-    ∙ ap (λ n. nat_lt k n && is_some (stored_page c.args.self.now c.args.file (first + k))) end)
+    record {
+      long = omega (arith, c.requires.few, c.loop-page.invariant.size);
+      each = λ k. c.loop-page.invariant.each k
+          ∙ ap (λ n. nat_lt k n && is_some (stored_page c.args.self.now c.args.file (first + k))) end;
+    }
