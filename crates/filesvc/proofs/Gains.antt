@@ -93,19 +93,25 @@ module _ (name : ℕ) (s : SoloSeen) (table : TableId) (i : IsServing name s.wor
   pub write_stopped : (o : ℕ) (b : List ℕ) (r : Reply) → Step s.world.core (event.Write h o b) r t.world.core → Stops t h.0 o (length b) r
   write_stopped o b r a = writes_stop o b (event.Write h o b) r (done_write o b o (length b) r) a
 
-  -- of a handle that is not open the end of the file does not matter
-  pub append_stopped : (o : ℕ) (b : List ℕ) (r : Reply) → (is_open s.world.core h.0 ≡ true → o ≡ (file_at s.world.core (handle_file s.world.core h.0)).size) → Step s.world.core (event.Append h b) r t.world.core → Stops t h.0 o (length b) r
-  append_stopped o b r at a = by (is_open s.world.core h.0) refl
+  -- where nothing was appended the file ends as before; and of a handle that is not open its end does not matter
+  pub append_stopped : (o : ℕ) (b : List ℕ) (r : Reply) → (is_open t.world.core h.0 ≡ true → o ≡ (file_at t.world.core (handle_file t.world.core h.0)).size) → Step s.world.core (event.Append h b) r t.world.core → Stops t h.0 o (length b) r
+  append_stopped o b r at a = elim (answered (write_tests s.world.core h.0 size (length b)) s.world.core (event.Append h b) r t.world.core a) [
+    | inl x ↦ by (is_open s.world.core h.0) refl x.0 x.1
+    | inr x ↦ done_append b o (length b) r x.1
+  ]
     where
       size : ℕ
       size = (file_at s.world.core (handle_file s.world.core h.0)).size
 
-      by : (x : Bool) → is_open s.world.core h.0 ≡ x → Stops t h.0 o (length b) r
-      by true e = subst (λ z. Stops t h.0 z (length b) r) (sym (at e)) (writes_stop size b (event.Append h b) r (done_append b size (length b) r) a)
-      by false e = elim (answered (write_tests s.world.core h.0 size (length b)) s.world.core (event.Append h b) r t.world.core a) [
-        | inl x ↦ (let k : reply.Refused BadHandle ≡ r = (let y = sym (at_true (not (is_open s.world.core h.0)) _ _ (ap not e)) ∙ x.0 in cc) in subst (Stops t h.0 o (length b)) k tt)
-        | inr x ↦ done_append b o (length b) r x.1
-      ]
+      by : (x : Bool) → is_open s.world.core h.0 ≡ x → write_tests s.world.core h.0 size (length b) ≡ Some r → t.world.core ≡ s.world.core
+          → Stops t h.0 o (length b) r
+      by true e is same =
+          let here : o ≡ size = at (ap (λ c. is_open c h.0) same ∙ e) ∙ ap (λ c. (file_at c (handle_file c h.0)).size) same in
+          subst (λ z. Stops t h.0 z (length b) r) (sym here)
+          (stops_at s t same d h.0 size (length b) r (write_stops name s table i h.0 size (length b) r is))
+      by false e is same =
+          let k : reply.Refused BadHandle ≡ r = (let y = sym (at_true (not (is_open s.world.core h.0)) _ _ (ap not e)) ∙ is in cc) in
+          subst (Stops t h.0 o (length b)) k tt
 
 -- ---- the way on
 
@@ -126,7 +132,7 @@ read_wants s t h o n k serves e =
 
 -- an append that is not over begins at the end of the file, as long as that is
 append_at : (s mid t : SoloSeen) (h : HandleId) (o : ℕ) (b : List ℕ) (r : Reply) → Step s.world.core (event.Append h b) r mid.world.core
-    → (is_open s.world.core h.0 ≡ true → o ≡ (file_at s.world.core (handle_file s.world.core h.0)).size)
+    → (is_open mid.world.core h.0 ≡ true → o ≡ (file_at mid.world.core (handle_file mid.world.core h.0)).size)
     → is_settled (Some r) ≡ false → Serves mid t
     → (o ≡ (file_at mid.world.core (handle_file mid.world.core h.0)).size) × (o ≡ (file_at t.world.core (handle_file t.world.core h.0)).size)
 append_at s mid t h o b r step at u serves = by (is_open s.world.core h.0) refl
@@ -134,19 +140,20 @@ append_at s mid t h o b r step at u serves = by (is_open s.world.core h.0) refl
     by : (x : Bool) → is_open s.world.core h.0 ≡ x
         → (o ≡ (file_at mid.world.core (handle_file mid.world.core h.0)).size) × (o ≡ (file_at t.world.core (handle_file t.world.core h.0)).size)
     by true e =
-        let f : o ≡ (file_at mid.world.core (handle_file mid.world.core h.0)).size = at e ∙ ap (λ z. (file_at z (handle_file z h.0)).size) (sym ((comes s.world.core mid.world.core (event.Append h b) r refl step).same u)) in
+        let same = (comes s.world.core mid.world.core (event.Append h b) r refl step).same u in
+        let f : o ≡ (file_at mid.world.core (handle_file mid.world.core h.0)).size = at (ap (λ z. is_open z h.0) same ∙ e) in
         (f, f ∙ sym (size_same mid t h.0 serves))
     by false e = absurd (
         let bad : write_tests s.world.core h.0 (file_at s.world.core (handle_file s.world.core h.0)).size (length b) ≡ Some (reply.Refused BadHandle) = at_true (not (is_open s.world.core h.0)) _ _ (ap not e) in
         let k : true ≡ false = sym (ap is_settled bad) ∙ (comes s.world.core mid.world.core (event.Append h b) r refl step).unsettled u in cc)
 
-pub append_gains : (s mid t : SoloSeen) (h : HandleId) (o : ℕ) (b : List ℕ) (r : Reply) → Step s.world.core (event.Append h b) r mid.world.core → (is_open s.world.core h.0 ≡ true → o ≡ (file_at s.world.core (handle_file s.world.core h.0)).size) → is_settled (Some r) ≡ false → Serves mid t → need true t.world.core h.0 o (length b) < need true mid.world.core h.0 o (length b) → need_of t.world.core (event.Append h b) < need_of mid.world.core (event.Append h b)
+pub append_gains : (s mid t : SoloSeen) (h : HandleId) (o : ℕ) (b : List ℕ) (r : Reply) → Step s.world.core (event.Append h b) r mid.world.core → (is_open mid.world.core h.0 ≡ true → o ≡ (file_at mid.world.core (handle_file mid.world.core h.0)).size) → is_settled (Some r) ≡ false → Serves mid t → need true t.world.core h.0 o (length b) < need true mid.world.core h.0 o (length b) → need_of t.world.core (event.Append h b) < need_of mid.world.core (event.Append h b)
 append_gains s mid t h o b r step at u serves l =
     let x = append_at s mid t h o b r step at u serves in
     subst (λ z. need true t.world.core h.0 z (length b) < need_of mid.world.core (event.Append h b)) x.1 (subst (λ z. need true t.world.core h.0 o (length b) < need true mid.world.core h.0 z (length b)) x.0 l)
 
 pub append_wants : (s mid t : SoloSeen) (h : HandleId) (o : ℕ) (b : List ℕ) (r : Reply) → Step s.world.core (event.Append h b) r mid.world.core
-    → (is_open s.world.core h.0 ≡ true → o ≡ (file_at s.world.core (handle_file s.world.core h.0)).size)
+    → (is_open mid.world.core h.0 ≡ true → o ≡ (file_at mid.world.core (handle_file mid.world.core h.0)).size)
     → is_settled (Some r) ≡ false → Serves mid t
     → wants true t.world.core h.0 o (length b) ≡ wanted_by t.world.core (event.Append h b)
 append_wants s mid t h o b r step at u serves =
