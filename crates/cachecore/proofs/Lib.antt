@@ -35,6 +35,7 @@ pub mod SyncCalls
 pub mod SyncChanges
 pub mod SyncLaws
 pub mod SyncSteps
+pub mod SyncWaits
 pub mod TouchCounts
 pub mod Values
 pub mod WriteFlags

@@ -1,10 +1,12 @@
 -- Which room a call wants.
-use Rattle.std.proofs.Common.{◌≡◌, ℕ, ◌+◌, ◌-◌, ◌/◌, Bool, true, false, not, sym, ◌∙◌, inl, inr}
+use Rattle.std.proofs.Common.{◌≡◌, ◌≤◌, ℕ, ◌+◌, ◌-◌, ◌/◌, Bool, true, false, not, refl, sym, ◌∙◌, arith, inl, inr}
 use Rattle.std.specs.Prelude.{◌&&◌, ◌⊎◌, Some, None, count_by, nat_lt, if◌then◌else◌}
 use Rattle.std.specs.List.{range_with_len}
-use Rattle.machine.specs.State.{State, dirty_total, handle_file, tags_at}
+use Rattle.std.proofs.lemmas.Bool.Decides.{nat_tests}
+use Rattle.machine.specs.State.{State, dirty_total, free_frames, handle_file, is_cached, tags_at}
+use Rattle.cachecore.specs.declared.answers.Demand.{Demand}
 use Rattle.cachecore.specs.declared.answers.Want.TheVariants.{Clean, Frames}
-use Rattle.cachecore.specs.Wants.{frames_short, lacks_frames, may_touch, passes_limit, wants}
+use Rattle.cachecore.specs.Wants.{demanded, frames_short, lacking, lacks_frames, may_touch, passes_limit, wants}
 
 -- too many pages would be dirty, by the pages that a call touches
 pub over_is : (s : State) (h o n file first end : ℕ) (over : Bool) → may_touch s h o n ≡ true → file ≡ handle_file s h
@@ -19,15 +21,35 @@ over_is s h o n file first end over may f a b is =
     && nat_lt s.sizes.dirty_limit
     (dirty_total s + count_by (λ p. not (tags_at s (f i) p).dirty) (range_with_len (a i) (b i - a i)))))
 
-module _ (dirties : Bool) (s : State) (h o n : ℕ) (enough : lacks_frames s h o n ≡ false) where
-  pub wants_clean : dirties ≡ true → passes_limit s h o n ≡ true → wants dirties s h o n ≡ Some Clean
-  wants_clean d over = λ i. if enough i then Some (Frames (frames_short s h o n)) else if (d i && over i) then Some Clean else None
+-- enough frames are free, by the pages that it touches
+pub enough_is : (s : State) (h o n file first end short : ℕ) → file ≡ handle_file s h → first ≡ o / s.sizes.page
+    → end ≡ (o + n - 1) / s.sizes.page + 1
+    → short ≡ count_by (λ p. not (is_cached s file p)) (range_with_len first (end - first)) - free_frames s → short ≤ 0
+    → lacks_frames s h o n ≡ false
+enough_is s h o n file first end short f a b is none =
+    let same : count_by (λ p. not (is_cached s file p)) (range_with_len first (end - first)) ≡ lacking s (handle_file s h) o n =
+    λ i. count_by (λ p. not (is_cached s (f i) p)) (range_with_len (a i) (b i - a i)) in
+    by (may_touch s h o n) (free_frames s) (lacking s (handle_file s h) o n) (omega (arith, same, is, none))
+  where
+    by : (may : Bool) (F L : ℕ) → L ≤ F → (may && nat_lt F L) ≡ false
+    by true F L few = grind (arith, nat_tests)
+    by false F L few = refl
 
-  pub wants_none : (dirties ≡ false) ⊎ (passes_limit s h o n ≡ false) → wants dirties s h o n ≡ None
-  wants_none (inl clean) =
-      λ i. if enough i then Some (Frames (frames_short s h o n)) else if (clean i && passes_limit s h o n) then Some Clean else None
-  wants_none (inr few) = go dirties
+module _ (s : State) (d : Demand) (enough : lacks_frames s d.handle.0 d.offset (demanded s d) ≡ false) where
+  abbrev short : ℕ
+  short = frames_short s d.handle.0 d.offset (demanded s d)
+
+  abbrev passes : Bool
+  passes = passes_limit s d.handle.0 d.offset (demanded s d)
+
+  pub wants_clean : d.dirties ≡ true → passes ≡ true → wants s d ≡ Some Clean
+  wants_clean dirties over = λ i. if enough i then Some (Frames short) else if (dirties i && over i) then Some Clean else None
+
+  pub wants_none : (d.dirties ≡ false) ⊎ (passes ≡ false) → wants s d ≡ None
+  wants_none (inl clean) = λ i. if enough i then Some (Frames short) else if (clean i && passes) then Some Clean else None
+  wants_none (inr few) =
+      (λ i. if enough i then Some (Frames short) else if (d.dirties && few i) then Some Clean else None) ∙ go d.dirties
     where
-      go : (d : Bool) → wants d s h o n ≡ None
-      go true = λ i. if enough i then Some (Frames (frames_short s h o n)) else if few i then Some Clean else None
-      go false = λ i. if enough i then Some (Frames (frames_short s h o n)) else None
+      go : (b : Bool) → (if b && false then Some Clean else None) ≡ None
+      go true = refl
+      go false = refl

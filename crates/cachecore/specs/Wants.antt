@@ -5,12 +5,14 @@ use Rattle.std.specs.FinMap as map
 use Rattle.std.specs.List.{list_any}
 use Rattle.pc_types.specs.declared.limits.TheConstants.{MAX_FILE_SIZE, MAX_TOUCHED}
 use Rattle.pc_types.specs.Kinds.{is_fill, is_flush}
+use Rattle.cachecore.specs.declared.answers.Demand.{Demand}
 use Rattle.cachecore.specs.declared.answers.InFlight.{InFlight}
 use Rattle.cachecore.specs.declared.answers.Want.{Want}
 use Rattle.cachecore.specs.declared.answers.Want.TheVariants.{Clean, Frames}
 use Rattle.machine.specs.Changes.{flush_pick}
 use Rattle.machine.specs.State.{State, dirty_total, file_at, handle_file, free_frames, is_cached, is_open, tags_at}
 use Rattle.machine.specs.State.{touched, touched_count}
+use Rattle.machine.specs.Tests.{read_count}
 
 -- n bytes at o of an open file, which a call may touch: some, in at most 16 pages, and none past the greatest size of a
 -- file
@@ -39,11 +41,15 @@ passes_limit s h o n =
     let more = dirtied s (handle_file s h) o n in
     may_touch s h o n && (nat_lt 0 more && nat_lt s.sizes.dirty_limit (dirty_total s + more))
 
--- which room a call on n bytes at o wants, that makes their pages dirty or not: so many more free frames, or fewer dirty pages
-abbrev pub wants : Bool → State → ℕ → ℕ → ℕ → Option Want
-wants dirties s h o n =
-    if lacks_frames s h o n then Some (Frames (frames_short s h o n))
-    else if dirties && passes_limit s h o n then Some Clean else None
+-- how many bytes a demand is for: of a call that makes no page dirty none past the end of the file
+abbrev pub demanded : State → Demand → ℕ
+demanded s d = if d.dirties then d.count else read_count s (handle_file s d.handle.0) d.offset d.count
+
+-- which room a call with this demand wants: so many more free frames, or fewer dirty pages
+abbrev pub wants : State → Demand → Option Want
+wants s d =
+    if lacks_frames s d.handle.0 d.offset (demanded s d) then Some (Frames (frames_short s d.handle.0 d.offset (demanded s d)))
+    else if d.dirties && passes_limit s d.handle.0 d.offset (demanded s d) then Some Clean else None
 
 -- how many requests of each kind are in flight, and how many syncs in progress
 abbrev pub in_flight : State → InFlight

@@ -102,7 +102,7 @@ pub struct Demand {
     pub handle: HandleId,
     pub offset: u64,
     pub count: u64,
-    /// Whether the call makes these pages dirty.
+    /// Whether the call makes these pages dirty. If not, bytes past the end of the file are no part of the demand.
     pub dirties: bool,
 }
 

@@ -3,12 +3,12 @@
 ghost use Rattle.std.specs.Prelude.{◌≡◌, ◌+◌, ◌-◌, ◌/◌, ◌<◌, ◌≤◌, IfNone, IfSome, length, true, false};
 ghost use Rattle.pc_types.specs.declared.limits.TheConstants.{MAX_FILE_SIZE, MAX_IN_FLIGHT, MAX_SYNCS, MAX_TOUCHED};
 ghost use Rattle.machine.specs.State.{free_frames, handle_file};
-ghost use Rattle.cachecore.specs.Wants.{IsFirstToWrite, NothingToWrite, holds_cut, in_flight, is_busy, may_touch, wants};
+ghost use Rattle.cachecore.specs.Wants.{IsFirstToWrite, NothingToWrite, demanded, holds_cut, in_flight, is_busy, may_touch, wants};
 
 use crate::answers::{Demand, InFlight, Want};
 use crate::cache::{CacheCore, is_too_long};
+use pc_types::FileId;
 use pc_types::limits::MAX_FILE_SIZE;
-use pc_types::{FileId, HandleId};
 
 /// The pages of a file from `first` up to `end`.
 struct Touched {
@@ -21,27 +21,14 @@ impl CacheCore {
     /// Which room a call wants for these bytes: frames for the pages that are absent, or, if it makes its pages dirty, fewer dirty ones.
     /// `None` where no call may touch them. It looks each page up twice at most.
     pub fn wants(&self, demand: Demand) -> Option<Want>
-        ensures { result ≡ wants demand.dirties self.now.state demand.handle.0 demand.offset demand.count }
+        ensures { result ≡ wants self.now.state demand }
     {
-        let Demand {
-            handle,
-            offset,
-            count,
-            dirties,
-        } = demand;
-        self.room_for(handle, offset, count, dirties)
-    }
-
-    /// The same, of its parts.
-    fn room_for(&self, handle: HandleId, offset: u64, count: u64, dirties: bool) -> Option<Want>
-        ensures { result ≡ wants dirties self.now.state handle.0 offset count }
-    {
-        let Touched { file, first, end } = self.touched(handle, offset, count)?;
+        let Touched { file, first, end } = self.touched(demand)?;
         let short = self.pages.frames_short(file, first, end);
         if short > 0 {
             return Some(Want::Frames(short));
         }
-        if dirties && self.is_over_limit(file, first, end) {
+        if demand.dirties && self.is_over_limit(file, first, end) {
             return Some(Want::Clean);
         }
         None
@@ -93,17 +80,19 @@ impl CacheCore {
         None
     }
 
-    /// The pages that these bytes of the handle's file touch, where a call may touch them.
-    fn touched(&self, handle: HandleId, offset: u64, count: u64) -> Option<Touched>
-        ensures none { IfNone result (may_touch self.now.state handle.0 offset count ≡ false) }
-        ensures some { IfSome result (λ _. may_touch self.now.state handle.0 offset count ≡ true) }
-        ensures file { IfSome result (λ t. (t.file ≡ handle_file self.now.state handle.0) × (t.file < length self.now.state.files)) }
-        ensures first { IfSome result (λ t. t.first ≡ offset / self.now.state.sizes.page) }
-        ensures end { IfSome result (λ t. t.end ≡ (offset + count - 1) / self.now.state.sizes.page + 1) }
+    /// The pages that the bytes of a demand touch, where a call may touch them.
+    fn touched(&self, demand: Demand) -> Option<Touched>
+        ensures none { IfNone result (may_touch self.now.state demand.handle.0 demand.offset (demanded self.now.state demand) ≡ false) }
+        ensures some { IfSome result (λ _. may_touch self.now.state demand.handle.0 demand.offset (demanded self.now.state demand) ≡ true) }
+        ensures file { IfSome result (λ t. (t.file ≡ handle_file self.now.state demand.handle.0) × (t.file < length self.now.state.files)) }
+        ensures first { IfSome result (λ t. t.first ≡ demand.offset / self.now.state.sizes.page) }
+        ensures end { IfSome result (λ t. t.end ≡ (demand.offset + demanded self.now.state demand - 1) / self.now.state.sizes.page + 1) }
         ensures few { IfSome result (λ t. (t.first ≤ t.end) × (t.end - t.first ≤ MAX_TOUCHED)) }
         ensures bound { IfSome result (λ t. t.end ≤ MAX_FILE_SIZE) }
     {
-        let file = self.handles.file(handle.0)?;
+        let file = self.handles.file(demand.handle.0)?;
+        let offset = demand.offset;
+        let count = self.demanded(file, demand);
         let page_size = self.geometry.page();
         if count == 0
             || offset.saturating_add(count) > MAX_FILE_SIZE
@@ -114,5 +103,18 @@ impl CacheCore {
         let first = offset / page_size;
         let end = (offset + count - 1) / page_size + 1;
         Some(Touched { file, first, end })
+    }
+
+    /// How many bytes a demand is for, in its handle's file.
+    fn demanded(&self, file: u64, demand: Demand) -> u64
+        requires here { file < length self.now.state.files }
+        requires file { file ≡ handle_file self.now.state demand.handle.0 }
+        ensures { result ≡ demanded self.now.state demand }
+    {
+        if demand.dirties {
+            return demand.count;
+        }
+        let left = self.pages.size(file).saturating_sub(demand.offset);
+        demand.count.min(left)
     }
 }

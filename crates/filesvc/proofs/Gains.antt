@@ -1,7 +1,6 @@
 -- After an event that was not over: what stands in its way, in the state after it, and that the way on brought it nearer its end.
-use Rattle.std.proofs.Common.{◌≡◌, ℕ, ◌-◌, ◌<◌, ◌≤◌, Bool, true, false, not, List, length, refl, ap, sym, subst, ◌∙◌, inl, inr}
-use Rattle.std.specs.Prelude.{◌⊎◌, Some, Ok, is_some, min, unwrap_or}
-use Rattle.std.specs.FinMap as finmap
+use Rattle.std.proofs.Common.{◌≡◌, ℕ, ◌<◌, ◌≤◌, Bool, true, false, not, List, length, refl, ap, sym, subst, ◌∙◌, inl, inr}
+use Rattle.std.specs.Prelude.{◌⊎◌, Some, Ok, is_some}
 use Rattle.atomic_table.specs.Seated.{TableId}
 use Rattle.pc_types.specs.declared.ids.HandleId.{HandleId}
 use Rattle.pc_types.specs.declared.ids.PageIndex.{PageIndex}
@@ -27,7 +26,7 @@ use Rattle.filesvc.specs.Rests.{IsServing}
 use Rattle.filesvc.specs.Seen.{SoloSeen}
 use Rattle.filesvc.specs.Service.{Serves, is_settled, wanted_by, wants}
 use Rattle.filesvc.proofs.CallSteps.{comes}
-use Rattle.filesvc.proofs.Fills.{is_open_of}
+use Rattle.filesvc.proofs.Demands.{size_same}
 use Rattle.filesvc.proofs.Stops.{read_stops, truncate_stops, write_stops}
 
 -- ---- in a service with the same cache and device
@@ -52,25 +51,25 @@ module _ (s t : SoloSeen) (e : t.world.core ≡ s.world.core) (d : t.world.devic
 -- ---- an event of a service
 
 module _ (name : ℕ) (s : SoloSeen) (table : TableId) (i : IsServing name s.world table s.errors) (t : SoloSeen) (d : t.world.device ≡ s.world.device) (h : HandleId) where
-  pub read_missed : (o n k : ℕ) (a : ReadAnswer) (out : List ℕ) (p : PageIndex) → Step s.world.core (event.Read h o n) (was_read (Ok a) out) t.world.core → (a ≡ read.Miss p) ⊎ (a ≡ read.Wait p) → (is_open t.world.core h.0 ≡ true → k ≡ read_count t.world.core (handle_file t.world.core h.0) o n) → IsMissed t h.0 o k p.0
-  read_missed o n k a out p step is count =
+  pub read_missed : (o n : ℕ) (a : ReadAnswer) (out : List ℕ) (p : PageIndex) → Step s.world.core (event.Read h o n) (was_read (Ok a) out) t.world.core → (a ≡ read.Miss p) ⊎ (a ≡ read.Wait p) → IsMissed t h.0 o (read_count t.world.core (handle_file t.world.core h.0) o n) p.0
+  read_missed o n a out p step is =
       let r = was_read (Ok a) out in
       let named : (r ≡ reply.Miss p) ⊎ (r ≡ reply.Wait p) = elim is [ inl e ↦ inl (ap (λ x. was_read (Ok x) out) e) | inr e ↦ inr (ap (λ x. was_read (Ok x) out) e) ] in
       elim (answered (tests s.world.core (event.Read h o n)) s.world.core (event.Read h o n) r t.world.core step) [
-        | inl x ↦ (
-            let m = read_stops name s table i h.0 o n r x.0 p.0 named in
-            let opened = ap (λ c. is_open c h.0) x.1 ∙ is_open_of (is_open s.world.core h.0) _ _ _ m.may in
-            let same : read_count s.world.core (handle_file s.world.core h.0) o n ≡ k = ap (λ c. read_count c (handle_file c h.0) o n) (sym x.1) ∙ sym (count opened) in
-            missed_at s t x.1 d h.0 o k p.0 (subst (λ z. IsMissed s h.0 o z p.0) same m))
+        | inl x ↦ subst (λ k. IsMissed t h.0 o k p.0) (ap (λ c. read_count c (handle_file c h.0) o n) (sym x.1))
+            (missed_at s t x.1 d h.0 o (read_count s.world.core (handle_file s.world.core h.0) o n) p.0
+            (read_stops name s table i h.0 o n r x.0 p.0 named))
         | inr x ↦ absurd (elim named [ inl e ↦ subst (λ y. MayReply s.world.core (event.Read h o n) y) e x.1 | inr e ↦ subst (λ y. MayReply s.world.core (event.Read h o n) y) e x.1 ])
       ]
 
-  pub truncate_missed : (z : ℕ) (a : TruncateAnswer) (p : PageIndex) → Step s.world.core (event.Truncate h z) (was_truncated (Ok a)) t.world.core → (a ≡ cut.Miss p) ⊎ (a ≡ cut.Wait p) → IsMissed t h.0 z 1 p.0
+  pub truncate_missed : (z : ℕ) (a : TruncateAnswer) (p : PageIndex) → Step s.world.core (event.Truncate h z) (was_truncated (Ok a)) t.world.core → (a ≡ cut.Miss p) ⊎ (a ≡ cut.Wait p) → IsMissed t h.0 z (read_count t.world.core (handle_file t.world.core h.0) z 1) p.0
   truncate_missed z a p step is =
       let r = was_truncated (Ok a) in
       let named : (r ≡ reply.Miss p) ⊎ (r ≡ reply.Wait p) = elim is [ inl e ↦ inl (ap (λ x. was_truncated (Ok x)) e) | inr e ↦ inr (ap (λ x. was_truncated (Ok x)) e) ] in
       elim (answered (tests s.world.core (event.Truncate h z)) s.world.core (event.Truncate h z) r t.world.core step) [
-        | inl x ↦ missed_at s t x.1 d h.0 z 1 p.0 (truncate_stops name s table i h.0 z r x.0 p.0 named)
+        | inl x ↦ subst (λ k. IsMissed t h.0 z k p.0) (ap (λ c. read_count c (handle_file c h.0) z 1) (sym x.1))
+            (missed_at s t x.1 d h.0 z (read_count s.world.core (handle_file s.world.core h.0) z 1) p.0
+            (truncate_stops name s table i h.0 z r x.0 p.0 named))
         | inr x ↦ absurd (elim named [ inl e ↦ subst (λ y. MayReply s.world.core (event.Truncate h z) y) e x.1 | inr e ↦ subst (λ y. MayReply s.world.core (event.Truncate h z) y) e x.1 ])
       ]
 
@@ -93,40 +92,31 @@ module _ (name : ℕ) (s : SoloSeen) (table : TableId) (i : IsServing name s.wor
   pub write_stopped : (o : ℕ) (b : List ℕ) (r : Reply) → Step s.world.core (event.Write h o b) r t.world.core → Stops t h.0 o (length b) r
   write_stopped o b r a = writes_stop o b (event.Write h o b) r (done_write o b o (length b) r) a
 
-  -- of a handle that is not open the end of the file does not matter
-  pub append_stopped : (o : ℕ) (b : List ℕ) (r : Reply) → (is_open s.world.core h.0 ≡ true → o ≡ (file_at s.world.core (handle_file s.world.core h.0)).size) → Step s.world.core (event.Append h b) r t.world.core → Stops t h.0 o (length b) r
-  append_stopped o b r at a = by (is_open s.world.core h.0) refl
+  -- where nothing was appended the file ends as before; and of a handle that is not open its end does not matter
+  pub append_stopped : (o : ℕ) (b : List ℕ) (r : Reply) → (is_open t.world.core h.0 ≡ true → o ≡ (file_at t.world.core (handle_file t.world.core h.0)).size) → Step s.world.core (event.Append h b) r t.world.core → Stops t h.0 o (length b) r
+  append_stopped o b r at a = elim (answered (write_tests s.world.core h.0 size (length b)) s.world.core (event.Append h b) r t.world.core a) [
+    | inl x ↦ by (is_open s.world.core h.0) refl x.0 x.1
+    | inr x ↦ done_append b o (length b) r x.1
+  ]
     where
       size : ℕ
       size = (file_at s.world.core (handle_file s.world.core h.0)).size
 
-      by : (x : Bool) → is_open s.world.core h.0 ≡ x → Stops t h.0 o (length b) r
-      by true e = subst (λ z. Stops t h.0 z (length b) r) (sym (at e)) (writes_stop size b (event.Append h b) r (done_append b size (length b) r) a)
-      by false e = elim (answered (write_tests s.world.core h.0 size (length b)) s.world.core (event.Append h b) r t.world.core a) [
-        | inl x ↦ (let k : reply.Refused BadHandle ≡ r = (let y = sym (at_true (not (is_open s.world.core h.0)) _ _ (ap not e)) ∙ x.0 in cc) in subst (Stops t h.0 o (length b)) k tt)
-        | inr x ↦ done_append b o (length b) r x.1
-      ]
+      by : (x : Bool) → is_open s.world.core h.0 ≡ x → write_tests s.world.core h.0 size (length b) ≡ Some r → t.world.core ≡ s.world.core
+          → Stops t h.0 o (length b) r
+      by true e is same =
+          let here : o ≡ size = at (ap (λ c. is_open c h.0) same ∙ e) ∙ ap (λ c. (file_at c (handle_file c h.0)).size) same in
+          subst (λ z. Stops t h.0 z (length b) r) (sym here)
+          (stops_at s t same d h.0 size (length b) r (write_stops name s table i h.0 size (length b) r is))
+      by false e is same =
+          let k : reply.Refused BadHandle ≡ r = (let y = sym (at_true (not (is_open s.world.core h.0)) _ _ (ap not e)) ∙ is in cc) in
+          subst (Stops t h.0 o (length b)) k tt
 
 -- ---- the way on
 
-size_same : (s t : SoloSeen) (h : ℕ) → Serves s t → (file_at t.world.core (handle_file t.world.core h)).size ≡ (file_at s.world.core (handle_file s.world.core h)).size
-size_same s t h k = ap (λ m. (file_at t.world.core (unwrap_or (finmap.get m h) 0)).size) k.keeps.handles ∙ k.lengths (handle_file s.world.core h)
-
-pub read_gains : (s t : SoloSeen) (h : HandleId) (o n k : ℕ) → Serves s t → k ≡ read_count s.world.core (handle_file s.world.core h.0) o n → need false t.world.core h.0 o k < need false s.world.core h.0 o k → need_of t.world.core (event.Read h o n) < need_of s.world.core (event.Read h o n)
-read_gains s t h o n k serves e l =
-    let f : read_count s.world.core (handle_file s.world.core h.0) o n ≡ read_count t.world.core (handle_file t.world.core h.0) o n = ap (λ z. min n (z - o)) (sym (size_same s t h.0 serves)) in
-    subst (λ x. need false t.world.core h.0 o x < need_of s.world.core (event.Read h o n)) f (subst (λ x. need false t.world.core h.0 o x < need false s.world.core h.0 o x) e l)
-
--- so it wants what the read wants
-pub read_wants : (s t : SoloSeen) (h : HandleId) (o n k : ℕ) → Serves s t
-    → k ≡ read_count s.world.core (handle_file s.world.core h.0) o n
-    → wants false t.world.core h.0 o k ≡ wanted_by t.world.core (event.Read h o n)
-read_wants s t h o n k serves e =
-    ap (wants false t.world.core h.0 o) (e ∙ ap (λ z. min n (z - o)) (sym (size_same s t h.0 serves)))
-
 -- an append that is not over begins at the end of the file, as long as that is
 append_at : (s mid t : SoloSeen) (h : HandleId) (o : ℕ) (b : List ℕ) (r : Reply) → Step s.world.core (event.Append h b) r mid.world.core
-    → (is_open s.world.core h.0 ≡ true → o ≡ (file_at s.world.core (handle_file s.world.core h.0)).size)
+    → (is_open mid.world.core h.0 ≡ true → o ≡ (file_at mid.world.core (handle_file mid.world.core h.0)).size)
     → is_settled (Some r) ≡ false → Serves mid t
     → (o ≡ (file_at mid.world.core (handle_file mid.world.core h.0)).size) × (o ≡ (file_at t.world.core (handle_file t.world.core h.0)).size)
 append_at s mid t h o b r step at u serves = by (is_open s.world.core h.0) refl
@@ -134,19 +124,20 @@ append_at s mid t h o b r step at u serves = by (is_open s.world.core h.0) refl
     by : (x : Bool) → is_open s.world.core h.0 ≡ x
         → (o ≡ (file_at mid.world.core (handle_file mid.world.core h.0)).size) × (o ≡ (file_at t.world.core (handle_file t.world.core h.0)).size)
     by true e =
-        let f : o ≡ (file_at mid.world.core (handle_file mid.world.core h.0)).size = at e ∙ ap (λ z. (file_at z (handle_file z h.0)).size) (sym ((comes s.world.core mid.world.core (event.Append h b) r refl step).same u)) in
+        let same = (comes s.world.core mid.world.core (event.Append h b) r refl step).same u in
+        let f : o ≡ (file_at mid.world.core (handle_file mid.world.core h.0)).size = at (ap (λ z. is_open z h.0) same ∙ e) in
         (f, f ∙ sym (size_same mid t h.0 serves))
     by false e = absurd (
         let bad : write_tests s.world.core h.0 (file_at s.world.core (handle_file s.world.core h.0)).size (length b) ≡ Some (reply.Refused BadHandle) = at_true (not (is_open s.world.core h.0)) _ _ (ap not e) in
         let k : true ≡ false = sym (ap is_settled bad) ∙ (comes s.world.core mid.world.core (event.Append h b) r refl step).unsettled u in cc)
 
-pub append_gains : (s mid t : SoloSeen) (h : HandleId) (o : ℕ) (b : List ℕ) (r : Reply) → Step s.world.core (event.Append h b) r mid.world.core → (is_open s.world.core h.0 ≡ true → o ≡ (file_at s.world.core (handle_file s.world.core h.0)).size) → is_settled (Some r) ≡ false → Serves mid t → need true t.world.core h.0 o (length b) < need true mid.world.core h.0 o (length b) → need_of t.world.core (event.Append h b) < need_of mid.world.core (event.Append h b)
+pub append_gains : (s mid t : SoloSeen) (h : HandleId) (o : ℕ) (b : List ℕ) (r : Reply) → Step s.world.core (event.Append h b) r mid.world.core → (is_open mid.world.core h.0 ≡ true → o ≡ (file_at mid.world.core (handle_file mid.world.core h.0)).size) → is_settled (Some r) ≡ false → Serves mid t → need true t.world.core h.0 o (length b) < need true mid.world.core h.0 o (length b) → need_of t.world.core (event.Append h b) < need_of mid.world.core (event.Append h b)
 append_gains s mid t h o b r step at u serves l =
     let x = append_at s mid t h o b r step at u serves in
     subst (λ z. need true t.world.core h.0 z (length b) < need_of mid.world.core (event.Append h b)) x.1 (subst (λ z. need true t.world.core h.0 o (length b) < need true mid.world.core h.0 z (length b)) x.0 l)
 
 pub append_wants : (s mid t : SoloSeen) (h : HandleId) (o : ℕ) (b : List ℕ) (r : Reply) → Step s.world.core (event.Append h b) r mid.world.core
-    → (is_open s.world.core h.0 ≡ true → o ≡ (file_at s.world.core (handle_file s.world.core h.0)).size)
+    → (is_open mid.world.core h.0 ≡ true → o ≡ (file_at mid.world.core (handle_file mid.world.core h.0)).size)
     → is_settled (Some r) ≡ false → Serves mid t
     → wants true t.world.core h.0 o (length b) ≡ wanted_by t.world.core (event.Append h b)
 append_wants s mid t h o b r step at u serves =

@@ -5,6 +5,7 @@ pub mod CallLengths
 pub mod CallSteps
 pub mod Callers
 pub mod Coming
+pub mod Demands
 pub mod Enough
 pub mod FailedFlush
 pub mod FailedWrites

@@ -191,11 +191,15 @@ module _ (name : ℕ) (s : SoloSeen) (table : TableId) (i : IsServing name s.wor
 
   -- ---- a truncation
 
-  pub truncate_stops : (z : ℕ) (r : Reply) → tests s.world.core (event.Truncate (record { 0 = h }) z) ≡ Some r → (p : ℕ) → (r ≡ reply.Miss (record { 0 = p })) ⊎ (r ≡ reply.Wait (record { 0 = p })) → IsMissed s h z 1 p
+  pub truncate_stops : (z : ℕ) (r : Reply) → tests s.world.core (event.Truncate (record { 0 = h }) z) ≡ Some r → (p : ℕ) → (r ≡ reply.Miss (record { 0 = p })) ⊎ (r ≡ reply.Wait (record { 0 = p })) → IsMissed s h z (read_count s.world.core (handle_file s.world.core h) z 1) p
   truncate_stops z r e = all r e
     where
+      -- the byte behind the new end
+      count : ℕ
+      count = read_count s.world.core (handle_file s.world.core h) z 1
+
       P : Reply → Type 0
-      P r = (p : ℕ) → (r ≡ reply.Miss (record { 0 = p })) ⊎ (r ≡ reply.Wait (record { 0 = p })) → IsMissed s h z 1 p
+      P r = (p : ℕ) → (r ≡ reply.Miss (record { 0 = p })) ⊎ (r ≡ reply.Wait (record { 0 = p })) → IsMissed s h z count p
 
       same_page : (a b : ℕ) → b ≡ a → b + 1 - a ≤ 16
       same_page a b e = omega arith
@@ -214,7 +218,7 @@ module _ (name : ℕ) (s : SoloSeen) (table : TableId) (i : IsServing name s.wor
       at true false q p e = absurd cc
       at false b q p e = absurd cc
 
-      missed : not (is_open s.world.core h) ≡ false → (p : ℕ) → truncate_stop s.world.core (handle_file s.world.core h) (boundary s.world.core (handle_file s.world.core h) z) ≡ Some p → IsMissed s h z 1 p
+      missed : not (is_open s.world.core h) ≡ false → (p : ℕ) → truncate_stop s.world.core (handle_file s.world.core h) (boundary s.world.core (handle_file s.world.core h) z) ≡ Some p → IsMissed s h z count p
       missed opened p found =
           let x = cut (boundary s.world.core (handle_file s.world.core h) z) p found in
           let y = at (nat_lt z (file_at s.world.core (handle_file s.world.core h)).size) _ (z / s.world.core.sizes.page) p x.0 in
@@ -223,14 +227,18 @@ module _ (name : ℕ) (s : SoloSeen) (table : TableId) (i : IsServing name s.wor
           let v = filled_first p x.1 in
           let one : z + 1 - 1 ≡ z = omega arith in
           let end : last_page s.world.core.sizes.page z 1 ≡ first_page s.world.core.sizes.page z = ap (λ k. k / s.world.core.sizes.page) one in
-          record {
+          subst (λ n. IsMissed s h z n p) (one_byte (file_at s.world.core (handle_file s.world.core h)).size shorter)
+          (record {
             may = may_if (is_open s.world.core h) 1 (touched_count s.world.core.sizes.page z 1) (z + 1) opened (omega arith) (same_page (first_page s.world.core.sizes.page z) (last_page s.world.core.sizes.page z 1) end) (omega arith);
             first = (let k = y.1 in omega arith);
             last = (let k = y.1 in omega arith);
             absent = v.0;
             within = v.1;
-          }
+          })
         where
+          one_byte : (size : ℕ) → z < size → 1 ≡ min 1 (size - z)
+          one_byte size l = omega arith
+
           less : (size : ℕ) → nat_lt z size ≡ true → z < size
           less size e = grind (arith, nat_tests)
 
@@ -239,8 +247,8 @@ module _ (name : ℕ) (s : SoloSeen) (table : TableId) (i : IsServing name s.wor
           else_when P (not (is_open s.world.core h)) _ _ (λ _ p a. elim a [ inl x ↦ absurd cc | inr x ↦ absurd cc ])
           (λ opened. else_when P (nat_lt MAX_FILE_SIZE z) _ _ (λ _ p a. elim a [ inl x ↦ absurd cc | inr x ↦ absurd cc ])
           (λ _. stop_when P s.world.core (handle_file s.world.core h) (truncate_stop s.world.core (handle_file s.world.core h) (boundary s.world.core (handle_file s.world.core h) z))
-          (λ q found p a. elim a [ inl x ↦ absurd cc | inr x ↦ (let same : q ≡ p = ap named x in subst (IsMissed s h z 1) same (missed opened q found)) ])
-          (λ q found p a. elim a [ inl x ↦ (let same : q ≡ p = ap named x in subst (IsMissed s h z 1) same (missed opened q found)) | inr x ↦ absurd cc ])))
+          (λ q found p a. elim a [ inl x ↦ absurd cc | inr x ↦ (let same : q ≡ p = ap named x in subst (IsMissed s h z count) same (missed opened q found)) ])
+          (λ q found p a. elim a [ inl x ↦ (let same : q ≡ p = ap named x in subst (IsMissed s h z count) same (missed opened q found)) | inr x ↦ absurd cc ])))
 
 -- ---- how many pages are touched by a call that is not over at once
 

@@ -43,9 +43,10 @@ use Rattle.runs.proofs.events.Lookups.{get-insert1}
 use Rattle.world.proofs.Stays.{handles_stay, keeps_handles}
 use Rattle.world.proofs.InFlight.{begins_none, next_rises, next_stays}
 use Rattle.world.proofs.RangeSync.{IsRangeSynced, SyncsRange, is_of_sync, range_begins, range_clean, range_goes}
-use Rattle.world.proofs.SyncStays.{is_over, never_waits, over_leaves_files, sync_stays, syncs_stay}
+use Rattle.world.proofs.SyncStays.{is_over, over_leaves_files, sync_stays, syncs_stay}
 use Rattle.runs.proofs.syncs.Track.{move_tracked}
 use Rattle.cachecore.specs.Replies.{is_job}
+use Rattle.cachecore.proofs.SyncWaits.{never_waits}
 use Rattle.filesvc.specs.Rests.{AtOnce, IsResting, IsService, IsServing}
 use Rattle.orderly.specs.Orderly.{IsOrderly}
 use Rattle.filesvc.specs.Seen.{SoloSeen}
@@ -393,7 +394,7 @@ step_ends w v n (reply.Job t) orderly rests j m = absurd cc
 step_ends w v n (reply.Wait p) orderly rests j m =
     elim m [
       | inl m ↦ absurd
-          (never_waits (world_of w) (world_of v) n p rests.requests (none_under w.core orderly rests.requests) m.0)
+          (never_waits w.core rests.requests (none_under w.core orderly rests.requests) n p v.core m.0.1.0)
       | inr x ↦
           absurd (let k = x.0 in cc)
     ]

@@ -12,8 +12,9 @@ use Rattle.machine.specs.declared.event.Reply.TheVariants as reply
 use Rattle.machine.specs.State.{State, cached_total, dirty_total, file_at, handle_file, free_frames, is_cached, is_open, page_count, touched_count}
 use Rattle.machine.specs.Step.{Step}
 use Rattle.machine.specs.Tests.{tests}
-use Rattle.cachecore.specs.Wants.{frames_short, lacking, lacks_frames, may_touch, passes_limit}
+use Rattle.cachecore.specs.Wants.{demanded, frames_short, lacking, lacks_frames, may_touch, passes_limit}
 use Rattle.world.specs.declared.step.Step.TheVariants as step
+use Rattle.cachecore.specs.declared.answers.Demand.{Demand}
 use Rattle.cachecore.specs.declared.answers.Want.{Want}
 use Rattle.cachecore.specs.declared.answers.Want.TheVariants.{Clean, Frames}
 use Rattle.filesvc.specs.Made.{FailsFill, WantsMemory, asked}
@@ -93,16 +94,20 @@ refusal_of (Some (Frames short)) = Some NoFrame
 refusal_of (Some Clean) = Some DirtyLimit
 refusal_of None = None
 
--- so many frames are told as a call is short of
-abbrev pub IsShort : State → ℕ → ℕ → ℕ → Want → Type 0
-IsShort s h o n (Frames short) = short ≡ frames_short s h o n
-IsShort s h o n Clean = Unit {0}
+-- the refusal that a call with this demand would get
+abbrev pub wanted : State → Demand → Option Refusal
+wanted s d = wants d.dirties s d.handle.0 d.offset (demanded s d)
 
--- room for a frame was made so many times, each time for a call that lacked frames
-unfoldable pub MakesRooms : ℕ → ℕ → ℕ → ℕ → SoloSeen → SoloSeen → Type 0
-MakesRooms h o n zero old new = new ≡ old
-MakesRooms h o n (suc times) old new =
-    (mid : SoloSeen) × MakesRooms h o n times old mid × (lacks_frames mid.world.core h o n ≡ true) × MakesRoom mid NoFrame new
+-- so many frames are told as a demand is short of
+abbrev pub IsShort : State → Demand → Want → Type 0
+IsShort s d (Frames short) = short ≡ frames_short s d.handle.0 d.offset (demanded s d)
+IsShort s d Clean = Unit {0}
+
+-- room for a frame was made so many times, each time for a demand that wanted one
+unfoldable pub MakesRooms : Demand → ℕ → SoloSeen → SoloSeen → Type 0
+MakesRooms d zero old new = new ≡ old
+MakesRooms d (suc times) old new =
+    (mid : SoloSeen) × MakesRooms d times old mid × (wanted mid.world.core d ≡ Some NoFrame) × MakesRoom mid NoFrame new
 
 -- the first and the last page that n bytes at o touch
 abbrev pub first_page : ℕ → ℕ → ℕ
@@ -116,6 +121,10 @@ last_page P o n = (o + n - 1) / P
 abbrev pub need : Bool → State → ℕ → ℕ → ℕ → ℕ
 need dirties s h o n = if is_some (wants dirties s h o n) then touched_count s.sizes.page o n + 1 else lacking s (handle_file s h) o n
 
+-- of a demand
+abbrev pub needed : State → Demand → ℕ
+needed s d = need d.dirties s d.handle.0 d.offset (demanded s d)
+
 -- it lacks page p, which is a page of the file
 pub record IsMissed (s : SoloSeen) (h o n p : ℕ) : Type 0 where
   pub may : may_touch s.world.core h o n ≡ true
@@ -123,6 +132,10 @@ pub record IsMissed (s : SoloSeen) (h o n p : ℕ) : Type 0 where
   pub last : p ≤ last_page s.world.core.sizes.page o n
   pub absent : is_cached s.world.core (handle_file s.world.core h) p ≡ false
   pub within : p < page_count s.world.core.sizes.page (file_at s.world.core (handle_file s.world.core h)).size
+
+-- of a demand
+abbrev pub Misses : SoloSeen → Demand → PageIndex → Type 0
+Misses s d p = IsMissed s d.handle.0 d.offset (demanded s.world.core d) p.0
 
 -- what stands in its way by this reply
 abbrev pub Stops : SoloSeen → ℕ → ℕ → ℕ → Reply → Type 0

@@ -5,7 +5,7 @@ ghost use Rattle.pc_types.specs.Files as plain;
 ghost use Rattle.pc_types.specs.declared.limits.TheConstants.{MAX_FILE_SIZE};
 ghost use Rattle.pc_types.specs.declared.refusal.Refusal.TheVariants.{BadHandle};
 ghost use Rattle.machine.specs.declared.event.Event.TheVariants as event;
-ghost use Rattle.machine.specs.State.{file_at, handle_file, is_open};
+ghost use Rattle.machine.specs.State.{file_at, handle_file};
 ghost use Rattle.machine.specs.Tests.{read_count};
 ghost use Rattle.runs.specs.Plain.{named, plain_file};
 ghost use Rattle.world.specs.declared.step.Step.TheVariants as step;
@@ -69,25 +69,16 @@ impl<D: BlockDevice> Solo<D> {
         match self.world.read(handle, offset, out)? {
             ReadAnswer::Bytes(count) => return Ok(Some(count)),
             ReadAnswer::Miss(page) | ReadAnswer::Wait(page) => {
-                let count = self.count_within(handle, offset, most);
                 let demand = Demand {
                     handle,
                     offset,
-                    count,
+                    count: most,
                     dirties: false,
                 };
                 self.fill(demand, page)?
             }
         }
         Ok(None)
-    }
-
-    /// How many bytes a read of so many reads: none past the end of the file.
-    fn count_within(&self, handle: HandleId, offset: u64, count: u64) -> u64
-        ensures { is_open self.now.world.core handle.0 ≡ true → result ≡ read_count self.now.world.core (handle_file self.now.world.core handle.0) offset count }
-    {
-        let size = self.world.size(handle).unwrap_or(0);
-        count.min(size.saturating_sub(offset))
     }
 
     /// Reads at the cursor, as `pread` does there, and moves the cursor by the count.

@@ -4,10 +4,9 @@ ghost use Rattle.std.specs.Prelude.{◌≡◌, ℕ, ◌⊎◌, ◌+◌, ◌<◌,
 ghost use Rattle.pc_types.specs.declared.ids.PageIndex.{PageIndex};
 ghost use Rattle.pc_types.specs.declared.refusal.Refusal.TheVariants.{DirtyLimit, NoFrame};
 ghost use Rattle.machine.specs.State.{free_frames};
-ghost use Rattle.cachecore.specs.Wants.{frames_short};
+ghost use Rattle.cachecore.specs.declared.answers.Want.TheVariants.{Frames};
 ghost use Rattle.filesvc.specs.Attempts.{Helps};
-ghost use Rattle.filesvc.specs.Rooms.{FailsFlush, FlushesOne, IsClean, IsFillRefusal, IsFlush, IsMissed, IsShort, IsWayRefusal, MakesRoom, MakesRooms, StaysAbsent, Suffices, load, need, refusal_of};
-ghost use Rattle.filesvc.specs.Service.{wants};
+ghost use Rattle.filesvc.specs.Rooms.{FailsFlush, FlushesOne, IsClean, IsFillRefusal, IsFlush, IsShort, IsWayRefusal, MakesRoom, MakesRooms, Misses, StaysAbsent, Suffices, load, needed, refusal_of, wanted};
 
 use crate::requests::{fill_page, flush_page};
 use crate::solo::Solo;
@@ -19,11 +18,11 @@ impl<D: BlockDevice> Solo<D> {
     /// Fills a page that a call on these bytes lacks. First room is made for all pages that it lacks: made for this one alone
     /// it could cost the call another of its pages (decision 111).
     pub(crate) fn fill(&mut self, demand: Demand, page: PageIndex) -> Result<(), Refusal>
-        requires missed { IsMissed self.old demand.handle.0 demand.offset demand.count page.0 }
+        requires missed { Misses self.old demand page }
         ensures helps { Helps demand.handle.0 (Some page) self.old self.new }
         ensures attempts { self.new.attempts ≡ self.old.attempts }
-        ensures refused { IfErr result (λ r. IsFillRefusal self.old demand.handle page (wants demand.dirties self.new.world.core demand.handle.0 demand.offset demand.count) r self.new) }
-        ensures gains { OnOk result (need demand.dirties self.new.world.core demand.handle.0 demand.offset demand.count < need demand.dirties self.old.world.core demand.handle.0 demand.offset demand.count) }
+        ensures refused { IfErr result (λ r. IsFillRefusal self.old demand.handle page (wanted self.new.world.core demand) r self.new) }
+        ensures gains { OnOk result (needed self.new.world.core demand < needed self.old.world.core demand) }
     {
         self.make_way(demand)?;
         self.fill_once(demand, page)
@@ -31,12 +30,12 @@ impl<D: BlockDevice> Solo<D> {
 
     /// Fills a page. A frame is free for it.
     fn fill_once(&mut self, demand: Demand, page: PageIndex) -> Result<(), Refusal>
-        requires missed { IsMissed self.old demand.handle.0 demand.offset demand.count page.0 }
-        requires room { wants demand.dirties self.old.world.core demand.handle.0 demand.offset demand.count ≡ None }
+        requires missed { Misses self.old demand page }
+        requires room { wanted self.old.world.core demand ≡ None }
         ensures helps { Helps demand.handle.0 (Some page) self.old self.new }
         ensures attempts { self.new.attempts ≡ self.old.attempts }
-        ensures refused { IfErr result (λ r. IsFillRefusal self.old demand.handle page (wants demand.dirties self.new.world.core demand.handle.0 demand.offset demand.count) r self.new) }
-        ensures gains { OnOk result (need demand.dirties self.new.world.core demand.handle.0 demand.offset demand.count < need demand.dirties self.old.world.core demand.handle.0 demand.offset demand.count) }
+        ensures refused { IfErr result (λ r. IsFillRefusal self.old demand.handle page (wanted self.new.world.core demand) r self.new) }
+        ensures gains { OnOk result (needed self.new.world.core demand < needed self.old.world.core demand) }
     {
         let why = match fill_page(&mut self.world, demand.handle, page) {
             Reply::Failed(code) => Refusal::Io(code),
@@ -50,10 +49,10 @@ impl<D: BlockDevice> Solo<D> {
     pub(crate) fn make_way(&mut self, demand: Demand) -> Result<(), Refusal>
         ensures helps { (page : Option PageIndex) → Helps demand.handle.0 page self.old self.new }
         ensures attempts { self.new.attempts ≡ self.old.attempts }
-        ensures made { OnOk result (wants demand.dirties self.new.world.core demand.handle.0 demand.offset demand.count ≡ None) }
-        ensures kept { wants demand.dirties self.old.world.core demand.handle.0 demand.offset demand.count ≡ None → OnOk result (self.new ≡ self.old) }
+        ensures made { OnOk result (wanted self.new.world.core demand ≡ None) }
+        ensures kept { wanted self.old.world.core demand ≡ None → OnOk result (self.new ≡ self.old) }
         ensures absent { OnOk result (StaysAbsent self.old.world.core self.new.world.core) }
-        ensures refused { IfErr result (λ r. IsWayRefusal self.old (wants demand.dirties self.new.world.core demand.handle.0 demand.offset demand.count) r self.new) }
+        ensures refused { IfErr result (λ r. IsWayRefusal self.old (wanted self.new.world.core demand) r self.new) }
     {
         'turns: while let Some(want) = self.wants(demand) {
             match want {
@@ -66,8 +65,8 @@ impl<D: BlockDevice> Solo<D> {
 
     /// Which room a call wants: frames, or fewer dirty pages.
     fn wants(&self, demand: Demand) -> Option<Want>
-        ensures wanted { refusal_of result ≡ wants demand.dirties self.now.world.core demand.handle.0 demand.offset demand.count }
-        ensures short { IfSome result (IsShort self.now.world.core demand.handle.0 demand.offset demand.count) }
+        ensures wanted { refusal_of result ≡ wanted self.now.world.core demand }
+        ensures short { IfSome result (IsShort self.now.world.core demand) }
     {
         self.world.wants(demand)
     }
@@ -77,13 +76,13 @@ impl<D: BlockDevice> Solo<D> {
     /// Each time one frame at most becomes free, and no page becomes cached. So the call is short of frames till the last time, and its
     /// pages are not looked up between (decision 169).
     fn make_rooms(&mut self, demand: Demand, short: u64) -> Result<(), Refusal>
-        requires { short ≡ frames_short self.old.world.core demand.handle.0 demand.offset demand.count }
+        requires { IsShort self.old.world.core demand (Frames short) }
         ensures helps { (page : Option PageIndex) → Helps demand.handle.0 page self.old self.new }
         ensures attempts { self.new.attempts ≡ self.old.attempts }
-        ensures rooms { OnOk result (MakesRooms demand.handle.0 demand.offset demand.count short self.old self.new) }
+        ensures rooms { OnOk result (MakesRooms demand short self.old self.new) }
         ensures less { OnOk result (load self.new.world.core + short ≤ load self.old.world.core) }
         ensures absent { OnOk result (StaysAbsent self.old.world.core self.new.world.core) }
-        ensures refused { IfErr result (λ r. IsWayRefusal self.old (wants demand.dirties self.new.world.core demand.handle.0 demand.offset demand.count) r self.new) }
+        ensures refused { IfErr result (λ r. IsWayRefusal self.old (wanted self.new.world.core demand) r self.new) }
     {
         'frames: for _ in 0..short {
             self.make_room(Refusal::NoFrame)?;

@@ -117,16 +117,7 @@ impl<D: BlockDevice> Solo<D> {
     {
         self.attempts += 1;
         let answer = self.world.write(handle, offset, bytes);
-        let count = bytes.len() as u64;
-        self.after_write(
-            Demand {
-                handle,
-                offset,
-                count,
-                dirties: true,
-            },
-            answer,
-        )
+        self.after_write(handle, offset, bytes.len() as u64, answer)
     }
 
     /// One attempt to append, as `try_write` is one to write.
@@ -136,31 +127,33 @@ impl<D: BlockDevice> Solo<D> {
         ensures wrote { IfOk result (λ o. IfSome o (WroteAll (file_at self.old.world.core (handle_file self.old.world.core handle.0)).size bytes.now)) }
     {
         self.attempts += 1;
-        let offset = self.world.size(handle).unwrap_or(0);
         let answer = self.world.append(handle, bytes);
-        let count = bytes.len() as u64;
-        self.after_write(
-            Demand {
-                handle,
-                offset,
-                count,
-                dirties: true,
-            },
-            answer,
-        )
+        if let Ok(WriteAnswer::Wrote { count, end }) = answer {
+            return Ok(Some(Wrote { count, end }));
+        }
+        // nothing was appended, so the file still ends where the bytes were to begin
+        let offset = self.world.size(handle).unwrap_or(0);
+        self.after_write(handle, offset, bytes.len() as u64, answer)
     }
 
     /// What an attempt to write comes to after its answer: how the write ended, or nothing where it is to be made again.
     fn after_write(
         &mut self,
-        demand: Demand,
+        handle: HandleId,
+        offset: u64,
+        count: u64,
         answer: Result<WriteAnswer, Refusal>,
     ) -> Result<Option<Wrote>, Refusal>
-        requires dirties { demand.dirties ≡ true }
-        requires stops { Stops self.old demand.handle.0 demand.offset demand.count (wrote answer) }
-        ensures follows { Follows self.old demand.handle (wrote answer) (wants demand.dirties self.new.world.core demand.handle.0 demand.offset demand.count) (write_over result) self.new }
-        ensures gains { write_over result ≡ None → need true self.new.world.core demand.handle.0 demand.offset demand.count < need true self.old.world.core demand.handle.0 demand.offset demand.count }
+        requires { Stops self.old handle.0 offset count (wrote answer) }
+        ensures follows { Follows self.old handle (wrote answer) (wants true self.new.world.core handle.0 offset count) (write_over result) self.new }
+        ensures gains { write_over result ≡ None → need true self.new.world.core handle.0 offset count < need true self.old.world.core handle.0 offset count }
     {
+        let demand = Demand {
+            handle,
+            offset,
+            count,
+            dirties: true,
+        };
         match answer {
             Ok(WriteAnswer::Wrote { count, end }) => return Ok(Some(Wrote { count, end })),
             Ok(WriteAnswer::Miss(page)) | Ok(WriteAnswer::Wait(page)) => self.fill(demand, page)?,

@@ -15,7 +15,7 @@ none_left : (n : ℕ) → nat_lt 0 n ≡ false → n ≡ 0
 none_left n e = grind (arith, nat_tests)
 
 -- at rest there is none
-no_requests : (s : State) → is_busy s ≡ false → s.requests ≡ finmap.empty
+pub no_requests : (s : State) → is_busy s ≡ false → s.requests ≡ finmap.empty
 no_requests s rests = finmap.empty_of_len s.requests (none_left (finmap.len s.requests) rests)
 
 none_such : (P : Request → Bool) (s : State) → is_busy s ≡ false → list_any P (finmap.values s.requests) ≡ false

@@ -32,7 +32,7 @@ use Rattle.pc_types.specs.declared.ids.HandleId.{HandleId}
 
 -- ---- what every legal history leaves
 
-kept_after : (files : Catalog) (sizes : Sizes) (name : ℕ) (history : List Entry) (s : State) → IsTrue (is_geometry sizes)
+pub kept_after : (files : Catalog) (sizes : Sizes) (name : ℕ) (history : List Entry) (s : State) → IsTrue (is_geometry sizes)
     → After files sizes name history s → IsKept sizes s
 kept_after files sizes name history s geometry h = legal_kept files sizes name (map seatless history) s geometry h.0 h.1
 

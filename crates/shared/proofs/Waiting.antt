@@ -1,12 +1,17 @@
--- A read or a change of a file that is told to wait can: a request is in flight then.
+-- A read, a change of a file or a step of a sync that is told to wait can: a request is in flight then.
 use Rattle.std.proofs.Common.{◌≡◌, ◌∙◌, ◌+◌, ℕ, Bool, true, false, [], cond, not, eqb, length, refl, sym, ap, subst, inl, inr}
 use Rattle.std.specs.Prelude.{◌&&◌, List, Option, Some, None, nat_lt, count_by}
+use Rattle.std.specs.FinMap as finmap
+use Rattle.std.specs.Ordering.{nat_cmp}
+use Rattle.std.proofs.lemmas.Bool.{true_from_ne_false}
 use Rattle.cachecore.specs.Wants.{is_busy}
+use Rattle.cachecore.proofs.SyncWaits.{never_waits}
 use Rattle.pc_types.specs.declared.limits.TheConstants.{MAX_FILE_SIZE, MAX_TOUCHED}
 use Rattle.pc_types.specs.declared.ids.HandleId.{HandleId}
 use Rattle.pc_types.specs.declared.ids.PageIndex.{PageIndex}
-use Rattle.machine.specs.Changes.{boundary}
-use Rattle.machine.specs.State.{State, dirty_total, fills, file_at, free_blocks, free_frames, handle_file, is_cached, is_filling, is_open, tags_at, touched, touched_count, without_block}
+use Rattle.pc_types.specs.declared.ids.SyncId.{SyncId}
+use Rattle.machine.specs.Changes.{boundary, sync_stepped}
+use Rattle.machine.specs.State.{Request, State, Sync, dirty_total, fills, file_at, free_blocks, free_frames, handle_file, is_cached, is_filling, is_open, tags_at, touched, touched_count, without_block}
 use Rattle.machine.specs.Step.{MayReply, Step}
 use Rattle.machine.specs.Tests.{first_of, read_count, read_stop, room_tests, stopped, tests, truncate_stop, write_stop, write_tests}
 use Rattle.machine.specs.declared.event.Event.{Event}
@@ -15,10 +20,12 @@ use Rattle.machine.specs.declared.event.Reply.{Reply}
 use Rattle.machine.specs.declared.event.Reply.TheVariants as reply
 use Rattle.machine.proofs.steps.Cases.{answered}
 use Rattle.machine.proofs.steps.Choices.{quiet_if, quiet_none, quiet_some, quiet_when}
+use Rattle.orderly.proofs.Orderly.{none_under}
+use Rattle.orderly.specs.Orderly.{IsOrderly}
 use Rattle.shared.specs.Changes.{event_of}
 use Rattle.shared.specs.declared.writes.Change.{Change}
 use Rattle.shared.specs.declared.writes.Change.TheVariants as change
-use Rattle.shared.proofs.CutRequests.{any_busy}
+use Rattle.shared.proofs.CutRequests.{any_busy, no_requests}
 
 -- a request is in flight where the reply is to wait
 abbrev OnWait : State → Reply → Type 0
@@ -96,3 +103,19 @@ module _ (s : State) where
   change_busy change.Append h b p new =
       by_test (event.Append h b) p new (write_waits h.0 (file_at s (handle_file s h.0)).size (length b)) (λ may. may)
   change_busy (change.Truncate z) h b p new = by_test (event.Truncate h z) p new (cut_waits h z) (λ may. may)
+
+  -- a sync waits for a write in flight: of the page that it comes to, or one that it awaits
+  pub step_busy : IsOrderly s → (m : SyncId) (p : PageIndex) (new : State) → Step s (event.SyncStep m) (reply.Wait p) new → is_busy new ≡ true
+  step_busy orderly m p new step =
+      ap (λ (x : finmap.FinMap nat_cmp Request). nat_lt 0 (finmap.len x)) requests
+      ∙ true_from_ne_false (is_busy s) (λ rests. never_waits s (no_requests s rests) (none_under s orderly (no_requests s rests)) m p new step)
+    where
+      stays : (o : Option Sync) → (sync_stepped s m.0 o (reply.Wait p)).requests ≡ s.requests
+      stays None = refl
+      stays (Some y) = refl
+
+      requests : new.requests ≡ s.requests
+      requests = elim (answered (tests s (event.SyncStep m)) s (event.SyncStep m) (reply.Wait p) new step) [
+        | inl a ↦ ap (λ (x : State). x.requests) a.1
+        | inr a ↦ ap (λ (x : State). x.requests) a.2 ∙ stays (finmap.get s.syncs m.0)
+      ]

@@ -148,12 +148,11 @@ impl<B: Naming, D: BlockDevice, T: Trail> SharedCache<B, D, T> {
             }
             ReadAnswer::Miss(page) => page,
         };
-        let size = guard.core().size(handle).unwrap_or(0);
         drop(guard);
         let demand = Demand {
             handle,
             offset,
-            count: most.min(size.saturating_sub(offset)),
+            count: most,
             dirties: false,
         };
         match self.fill(rt, seat, demand, page) {

@@ -16,13 +16,6 @@ use std::sync::{MutexGuard, Wait};
 use trail::Trail;
 
 impl<B: Naming, D: BlockDevice, T: Trail> SharedCache<B, D, T> {
-    /// Waits for the end of a request, where one is in flight.
-    pub(crate) fn waits<R: Wait>(&self, rt: &R, guard: MutexGuard<'_, Held<B, T>>) {
-        if guard.core().is_busy() {
-            self.wait_for_end(rt, guard);
-        }
-    }
-
     /// Waits for the end of a request. One is in flight.
     pub(crate) fn wait_for_end<R: Wait>(&self, rt: &R, guard: MutexGuard<'_, Held<B, T>>)
         requires { is_busy (mutex_guard_value guard).core.state ≡ true }

@@ -1,23 +1,16 @@
--- A sync's steps: which leave it in progress, what its end leaves, and that it never waits where no request is in
--- flight.
-use Rattle.std.proofs.Common.{◌≡◌, ℕ, Bool, true, false, cond, not, refl, ap, sym, ◌∙◌, inl, inr}
-use Rattle.std.specs.Prelude.{Option, Some, None, is_some, find}
-use Rattle.std.specs.Ordering.{nat_cmp}
+-- A sync's steps: which leave it in progress, and what its end leaves.
+use Rattle.std.proofs.Common.{◌≡◌, ℕ, Bool, true, false, not, refl, ap, sym, ◌∙◌, inl, inr}
+use Rattle.std.specs.Prelude.{is_some}
 use Rattle.std.specs.FinMap as finmap
-use Rattle.pc_types.specs.declared.ids.PageIndex.{PageIndex}
 use Rattle.pc_types.specs.declared.ids.SyncId.{SyncId}
-use Rattle.pc_types.specs.declared.refusal.Refusal.TheVariants.{TooManyInFlight}
-use Rattle.maps.proofs.MapLaws.{no_entries}
 use Rattle.maps.proofs.Maps.{get_inserted}
 use Rattle.machine.specs.declared.event.Event.{Event}
 use Rattle.machine.specs.declared.event.Event.TheVariants as event
 use Rattle.machine.specs.declared.event.Reply.{Reply}
 use Rattle.machine.specs.declared.event.Reply.TheVariants as reply
-use Rattle.machine.specs.State.{State, Request, Sync, first_awaited, handle_file, is_awaited, tags_at}
-use Rattle.machine.specs.Changes.{sync_pick}
-use Rattle.machine.specs.Tests.{is_full, refuse, start_tests, sync_tests}
-use Rattle.machine.specs.Step.{Step, SyncReply, SyncStepReply}
-use Rattle.machine.proofs.steps.Cases.{Cases, IsVerdict, answered, by_cases}
+use Rattle.machine.specs.State.{State, Sync}
+use Rattle.machine.specs.Step.{Step}
+use Rattle.machine.proofs.steps.Cases.{Cases, IsVerdict, by_cases}
 use Rattle.machine.proofs.steps.Ends.{own_end}
 use Rattle.runs.specs.World.{World, Move, Act, Call, Finish, WorldStep}
 use Rattle.world.proofs.InFlight.{call_core, finish_step}
@@ -158,46 +151,3 @@ pub over_leaves_files : (w new : World) (m : SyncId) (r : Reply) → is_over r �
 unfolding is_sync_step
 over_leaves_files w new m r over h =
     (by_cases w.core (Leaves w.core) (leaves_cases w.core) (event.SyncStep m) r new.core h.1.0).files refl over
-
--- ---- with no request in flight, and so no page under WRITEBACK, a sync never waits
-
-module _ (s : State) (none : s.requests ≡ finmap.empty)
-    (clear : (f p : ℕ) → (tags_at s f p).writeback ≡ true → ⊥) where
-  no_start : (f : ℕ) (p : PageIndex) (o : Option ℕ) → start_tests s f o ≡ Some (reply.Wait p) → ⊥
-  no_start f p None e = cc
-  no_start f p (Some q) e =
-      elim (tags_at s f q).writeback as (λ b. (tags_at s f q).writeback ≡ b
-      → cond b (Some (reply.Wait (record { 0 = q }))) (cond (is_full s) (refuse TooManyInFlight) None)
-      ≡ Some (reply.Wait p) → ⊥) [
-        | true ↦ λ tag j. clear f q tag
-        | false ↦ λ tag j. elim (is_full s) as (λ b. cond b (refuse TooManyInFlight) None ≡ Some (reply.Wait p) → ⊥)
-            [ true ↦ λ k. cc | false ↦ λ k. cc ] j
-      ] refl e
-
-  no_test : (p : PageIndex) (o : Option Sync) → sync_tests s o ≡ Some (reply.Wait p) → ⊥
-  no_test p None e = cc
-  no_test p (Some y) e = no_start (handle_file s y.handle) p (sync_pick s y) e
-
-  none_awaited : (y : Sync) → first_awaited s y ≡ None
-  none_awaited y = ap (λ m. find (is_awaited s y) (finmap.entries m)) none
-      ∙ ap (find (is_awaited s y)) (no_entries nat_cmp)
-
-  no_reply : (y : Sync) (p : PageIndex) (pick : Option ℕ) (e : Option (ℕ × Request)) → e ≡ None
-      → SyncReply s y pick e (reply.Wait p) → ⊥
-  no_reply y p (Some q) e k h = h
-  no_reply y p None None k h = h
-  no_reply y p None (Some x) k h = cc
-
-  no_wait : (p : PageIndex) (o : Option Sync) → SyncStepReply s o (reply.Wait p) → ⊥
-  no_wait p None h = h
-  no_wait p (Some y) h = no_reply y p (sync_pick s y) (first_awaited s y) (none_awaited y) h
-
-pub never_waits : (w new : World) (m : SyncId) (p : PageIndex) → w.core.requests ≡ finmap.empty
-    → ((f q : ℕ) → (tags_at w.core f q).writeback ≡ true → ⊥)
-    → WorldStep w (Act (event.SyncStep m) (reply.Wait p)) new → ⊥
-never_waits w new m p none clear h =
-    elim (answered (sync_tests w.core (finmap.get w.core.syncs m.0)) w.core (event.SyncStep m) (reply.Wait p) new.core
-    h.1.0) [
-      | inl a ↦ no_test w.core none clear p (finmap.get w.core.syncs m.0) a.0
-      | inr b ↦ no_wait w.core none clear p (finmap.get w.core.syncs m.0) b.1
-    ]

@@ -138,7 +138,7 @@ impl<D: BlockDevice> World<D> {
 
     /// Which room a call wants for these bytes. This is no event.
     pub fn wants(&self, demand: Demand) -> Option<Want>
-        ensures { result ≡ wants demand.dirties self.now.core demand.handle.0 demand.offset demand.count }
+        ensures { result ≡ wants self.now.core demand }
     {
         self.core.wants(demand)
     }

@@ -1,8 +1,8 @@
 use Rattle.std.proofs.Common.{Some, None, arith}
 use Rattle.std.specs.Prelude.{Result, Ok, Err, IfErr, OnOk}
 use Rattle.pc_types.specs.declared.refusal.Refusal.{Refusal}
+use Rattle.filesvc.proofs.Demands.{no_more, still_misses}
 use Rattle.filesvc.proofs.Laws.{helps_trans}
-use Rattle.filesvc.proofs.Needs.{no_more_needed, still_missed}
 use Rattle.filesvc.proofs.RoomLaws.{fill_refusal_before}
 use Rattle.filesvc.proofs.solo.Solo.fill.Goals as goal
 
@@ -20,8 +20,8 @@ returns-clause-refused g c = on_err c.fill_once.result _ _ c.fill_once.ensures.r
     (c.make_way.ensures.helps (Some c.args.page)) x)
 
 pub fill_once-requires-clause-missed : goal.fill_once-requires-clause-missed
-fill_once-requires-clause-missed g c = still_missed c.args.self.now c.make_way.new.self c.args.demand.handle.0 c.args.demand.offset c.args.demand.count
-    c.args.page.0 c.requires.missed (c.make_way.ensures.helps None).serves c.in_ok-make_way.ensures.absent
+fill_once-requires-clause-missed g c = still_misses c.args.self.now c.make_way.new.self c.args.demand (c.make_way.ensures.helps None).serves
+    c.args.page c.requires.missed c.in_ok-make_way.ensures.absent
 
 pub returns-in_err-make_way-clause-helps : goal.returns-in_err-make_way-clause-helps
 returns-in_err-make_way-clause-helps g c = c.make_way.ensures.helps (Some c.args.page)
@@ -31,5 +31,5 @@ returns-clause-helps g c = helps_trans _ _ _ (c.make_way.ensures.helps (Some c.a
 
 pub returns-clause-gains : goal.returns-clause-gains
 returns-clause-gains g c =
-    let most = no_more_needed c.args.demand.dirties c.args.self.now c.make_way.new.self c.args.demand.handle.0 c.args.demand.offset c.args.demand.count (c.make_way.ensures.helps None).serves c.in_ok-make_way.ensures.made c.in_ok-make_way.ensures.kept in
+    let most = no_more c.args.self.now c.make_way.new.self c.args.demand (c.make_way.ensures.helps None).serves c.in_ok-make_way.ensures.made c.in_ok-make_way.ensures.kept in
     on_ok c.fill_once.result _ _ c.fill_once.ensures.gains (λ l. omega arith)

@@ -2,15 +2,13 @@ use Rattle.std.proofs.Common.{◌+◌, ◌≤◌, None, inl, length, take, refl,
 use Rattle.std.proofs.lemmas.List.{length-take}
 use Rattle.std.proofs.lemmas.Result.{err_from_is_err_and}
 use Rattle.machine.specs.declared.event.Event.TheVariants as event
-use Rattle.machine.specs.State.{is_open}
 use Rattle.filesvc.specs.Seen.{SoloSeen}
 use Rattle.runs.proofs.moments.Reached.{reached_read}
 use Rattle.filesvc.proofs.Attempts.{attempt_follows, attempt_over, follows_again, follows_refused, read_asks, read_serves, read_unsettled, service_kept}
 use Rattle.filesvc.proofs.CallLengths.{read_all}
 use Rattle.filesvc.proofs.CallSteps.{read_settled}
 use Rattle.orderly.proofs.Calls.{read_small}
-use Rattle.filesvc.proofs.Fills.{is_open_of}
-use Rattle.filesvc.proofs.Gains.{read_gains, read_missed, read_wants}
+use Rattle.filesvc.proofs.Gains.{read_missed}
 use Rattle.filesvc.proofs.Laws.{serves_trans}
 use Rattle.filesvc.proofs.solo.Solo.try_read.Goals as goal
 
@@ -64,10 +62,6 @@ returns-in_err-fill-in-Miss-clause-serves g c =
 pub returns-in_err-fill-in-Miss-clause-attempt : goal.returns-in_err-fill-in-Miss-clause-attempt
 returns-in_err-fill-in-Miss-clause-attempt g c =
     let p = err_from_is_err_and c.from_residual-in_err-fill-in-Miss.result c.from_residual-in_err-fill-in-Miss.ensures.1 in
-    let s : SoloSeen = record { world = c.self.inside.world; errors = c.self.inside.recorder; attempts = 0 } in
-    let t : SoloSeen = record { world = c.read.new.self; errors = c.self.inside.recorder; attempts = c.self.inside.attempts + 1 } in
-    let m = read_missed _ s _ c.self.invariant.serving t c.in_ok-count.ensures.made.1 c.args.handle c.args.offset (length c.args.out.now) c.count_within-count.result c.in_ok-count.field-0 c.read.new.out c.in-Miss.page c.in_ok-count.ensures.made.0.1.0 c.in-Miss.is c.count_within-count.ensures in
-    let k = c.count_within-count.ensures (is_open_of (is_open t.world.core c.args.handle.0) _ _ _ m.may) in
     rw (p.1, p.2) (rw (← c.self.view_is)
     (attempt_follows _ c.args.handle (event.Read c.args.handle c.args.offset (length c.args.out.now)) _ _ refl
     c.in_ok-count.ensures.made.0 c.in_ok-count.ensures.made.1 c.in_ok-count.ensures.made.2
@@ -75,7 +69,7 @@ returns-in_err-fill-in-Miss-clause-attempt g c =
     (follows_refused _ _ _ _ _ _ (read_asks _ _ _ c.in-Miss.is) _ c.fill.ensures.helps c.fill.ensures.attempts
     (read_unsettled _ _ _ c.in-Miss.is)
     (inl (c.in-Miss.page, read_asks _ _ _ c.in-Miss.is, c.in_err-fill-in-Miss.ensures.refused)))
-    (λ _ r is. read_wants t c.fill.new.self c.args.handle c.args.offset (length c.args.out.now) c.count_within-count.result c.fill.ensures.helps.serves k)
+    (λ _ r is. refl)
     (λ _ is. absurd cc)))
 
 pub returns-clause-serves : goal.returns-clause-serves
@@ -84,25 +78,19 @@ returns-clause-serves g c =
 
 pub returns-clause-attempt : goal.returns-clause-attempt
 returns-clause-attempt g c =
-    let s : SoloSeen = record { world = c.self.inside.world; errors = c.self.inside.recorder; attempts = 0 } in
-    let t : SoloSeen = record { world = c.read.new.self; errors = c.self.inside.recorder; attempts = c.self.inside.attempts + 1 } in
-    let m = read_missed _ s _ c.self.invariant.serving t c.in_ok-count.ensures.made.1 c.args.handle c.args.offset (length c.args.out.now) c.count_within-count.result c.in_ok-count.field-0 c.read.new.out c.in-Miss.page c.in_ok-count.ensures.made.0.1.0 c.in-Miss.is c.count_within-count.ensures in
-    let k = c.count_within-count.ensures (is_open_of (is_open t.world.core c.args.handle.0) _ _ _ m.may) in
     rw (← c.self.view_is)
     (attempt_follows _ c.args.handle (event.Read c.args.handle c.args.offset (length c.args.out.now)) _ _ refl
     c.in_ok-count.ensures.made.0 c.in_ok-count.ensures.made.1 c.in_ok-count.ensures.made.2
     c.self.invariant.serving.sound c.self.invariant.serving.reached c.self.invariant.serving.orderly _ _ _ refl
     (follows_again _ _ _ None _ _ (read_asks _ _ _ c.in-Miss.is) c.fill.ensures.helps c.fill.ensures.attempts (read_unsettled _ _ _ c.in-Miss.is))
     (λ _ r is. absurd cc)
-    (λ _ _. read_gains t c.fill.new.self c.args.handle c.args.offset
-    (length c.args.out.now) c.count_within-count.result c.fill.ensures.helps.serves k
-    c.in_ok-fill-in-Miss.ensures.gains))
+    (λ _ _. c.in_ok-fill-in-Miss.ensures.gains))
 
 pub fill-requires : goal.fill-requires
 fill-requires g c =
     let s : SoloSeen = record { world = c.self.inside.world; errors = c.self.inside.recorder; attempts = 0 } in
     let t : SoloSeen = record { world = c.read.new.self; errors = c.self.inside.recorder; attempts = c.self.inside.attempts + 1 } in
-    record { missed = read_missed _ s _ c.self.invariant.serving t c.in_ok-count.ensures.made.1 c.args.handle c.args.offset (length c.args.out.now) c.count_within-count.result c.in_ok-count.field-0 c.read.new.out c.in-Miss.page c.in_ok-count.ensures.made.0.1.0 c.in-Miss.is c.count_within-count.ensures }
+    record { missed = read_missed _ s _ c.self.invariant.serving t c.in_ok-count.ensures.made.1 c.args.handle c.args.offset (length c.args.out.now) c.in_ok-count.field-0 c.read.new.out c.in-Miss.page c.in_ok-count.ensures.made.0.1.0 c.in-Miss.is }
 
 pub returns-in-Bytes-clause-all : goal.returns-in-Bytes-clause-all
 returns-in-Bytes-clause-all g c =

@@ -23,4 +23,4 @@ pub after_write-requires : goal.after_write-requires
 after_write-requires g c =
     let s : SoloSeen = record { world = c.self.inside.world; errors = c.self.inside.recorder; attempts = 0 } in
     let t : SoloSeen = record { world = c.write-answer.new.self; errors = c.self.inside.recorder; attempts = c.self.inside.attempts + 1 } in
-    record { dirties = refl; stops = write_stopped _ s _ c.self.invariant.serving t c.write-answer.ensures.1 c.args.handle c.args.offset c.args.bytes.now _ c.write-answer.ensures.0.1.0 }
+    write_stopped _ s _ c.self.invariant.serving t c.write-answer.ensures.1 c.args.handle c.args.offset c.args.bytes.now _ c.write-answer.ensures.0.1.0

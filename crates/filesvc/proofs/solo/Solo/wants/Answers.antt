@@ -6,11 +6,9 @@ use Rattle.filesvc.proofs.solo.Solo.wants.Goals as goal
 
 pub returns-clause-wanted : goal.returns-clause-wanted
 returns-clause-wanted g c =
-    rw (← c.self.view_is) (ap refusal_of c.wants.ensures
-    ∙ wanted_is c.args.demand.dirties c.self.inside.world.core c.args.demand.handle.0 c.args.demand.offset c.args.demand.count)
+    rw (← c.self.view_is) (ap refusal_of c.wants.ensures ∙ wanted_is c.self.inside.world.core c.args.demand)
 
 pub returns-clause-short : goal.returns-clause-short
 returns-clause-short g c =
-    rw (← c.self.view_is) (subst (λ o. IfSome o (IsShort c.self.inside.world.core c.args.demand.handle.0 c.args.demand.offset c.args.demand.count))
-    (sym c.wants.ensures)
-    (wanted_short c.args.demand.dirties c.self.inside.world.core c.args.demand.handle.0 c.args.demand.offset c.args.demand.count))
+    rw (← c.self.view_is) (subst (λ o. IfSome o (IsShort c.self.inside.world.core c.args.demand)) (sym c.wants.ensures)
+    (wanted_short c.self.inside.world.core c.args.demand))

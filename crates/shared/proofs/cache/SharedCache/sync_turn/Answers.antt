@@ -1,10 +1,14 @@
 use Rattle.std.proofs.Common.{◌≡◌, ◌∙◌, ap, length, rules, subst, sym}
-use Rattle.std.specs.Prelude.{Ok}
-use Rattle.cachecore.specs.Replies.{SyncGivesBack}
+use Rattle.std.specs.Prelude.{IsTrue, Ok}
+use Rattle.pc_types.specs.Limits.{Sizes, is_geometry}
+use Rattle.cachecore.specs.Replies.{SyncGivesBack, sync_stepped}
 use Rattle.cachecore.specs.declared.answers.SyncStepped.{SyncStepped}
 use Rattle.machine.specs.declared.event.Event.TheVariants as event
 use Rattle.held.specs.declared.log.Slip.{Slip}
+use Rattle.held.specs.Entered.{Made}
+use Rattle.held.specs.Shown.{HeldSeen}
 use Rattle.held.specs.Started.{as_sync}
+use Rattle.trail.specs.History.{After}
 use Rattle.shared.specs.Denials.{IsDenied}
 use Rattle.shared.specs.Polls.{Hears}
 use Rattle.shared.specs.declared.fsync.Synced.{Synced}
@@ -13,7 +17,9 @@ use Rattle.shared.proofs.Making.{denied_event, goes_denied}
 use Rattle.shared.proofs.Owning.{once_clean, once_failed, try_denied, try_waits, try_writes}
 use Rattle.shared.proofs.Rooming.{step_final}
 use Rattle.shared.proofs.Settling.{settles_denied, step_kind, step_quiet, step_settles}
+use Rattle.shared.proofs.Sparing.{kept_after}
 use Rattle.shared.proofs.Syncing.{step_full}
+use Rattle.shared.proofs.Waiting.{step_busy}
 use Rattle.shared.proofs.cache.SharedCache.sync_turn.Goals as goal
 
 pub returns-in-Err-wait_or-clause-goes : goal.returns-in-Err-wait_or-clause-goes
@@ -134,3 +140,15 @@ returns-clause-settled g c =
 pub flush_by-buffer-requires-clause-kind : goal.flush_by-buffer-requires-clause-kind
 flush_by-buffer-requires-clause-kind g c =
     step_kind c.args.sync _ c.in-Job.job _ _ _ _ _ (ap as_sync c.in-Job.is) c.in-Ok.ensures.made c.in-Ok.ensures.job
+
+-- who is told to wait can: a request is in flight
+pub wait_for_end-requires : goal.wait_for_end-requires
+wait_for_end-requires g c =
+    let geometry : IsTrue (is_geometry g.B.Naming.sizes) = subst (λ (z : Sizes). IsTrue (is_geometry z)) c.self.sized c.page.ensures.within in
+    let legal : After g.B.Naming.files g.B.Naming.sizes g.B.Naming.name c.deref_mut.result.now.log.history c.deref_mut.result.now.core.state =
+    subst (λ (s : HeldSeen). After g.B.Naming.files g.B.Naming.sizes g.B.Naming.name s.log.history s.core.state)
+    (c.deref.ensures ∙ sym c.deref_mut.ensures.value) c.core.ensures.named in
+    step_busy c.deref_mut.result.now.core.state (kept_after g.B.Naming.files g.B.Naming.sizes g.B.Naming.name _ _ geometry legal).orderly
+    c.args.sync c.in-Wait.field-0 c.sync_step.new.self.core.state
+    (subst (λ (x : SyncStepped). Made (event.SyncStep c.args.sync) (sync_stepped (Ok x)) c.deref_mut.result.now c.sync_step.new.self
+    c.args.seat.now c.sync_step.new.seat c.in-Ok.made.1) (ap as_sync c.in-Wait.is) c.in-Ok.ensures.made).step

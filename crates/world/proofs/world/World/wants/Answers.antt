@@ -4,6 +4,4 @@ use Rattle.world.specs.Stepping.{WorldSeen}
 use Rattle.world.proofs.world.World.wants.Goals as goal
 
 pub returns : goal.returns
-returns g c =
-    c.wants.ensures
-    ∙ ap (λ (w : WorldSeen). wants c.args.demand.dirties w.core c.args.demand.handle.0 c.args.demand.offset c.args.demand.count) c.self.view_is
+returns g c = c.wants.ensures ∙ ap (λ (w : WorldSeen). wants w.core c.args.demand) c.self.view_is
