@@ -1,8 +1,7 @@
 -- A read, a change of a file or a step of a sync that is told to wait can: a request is in flight then.
-use Rattle.std.proofs.Common.{◌≡◌, ◌∙◌, ◌+◌, ℕ, Bool, true, false, [], cond, not, eqb, length, refl, sym, ap, subst, inl, inr}
-use Rattle.std.specs.Prelude.{◌&&◌, List, Option, Some, None, nat_lt, count_by}
+use Rattle.std.proofs.Common.{◌≡◌, ◌∙◌, ◌+◌, ℕ, Bool, true, false, cond, not, eqb, length, refl, sym, ap, subst, inl, inr}
+use Rattle.std.specs.Prelude.{◌&&◌, List, Option, Some, None, nat_lt, count_by, slice_index_or}
 use Rattle.std.specs.FinMap as finmap
-use Rattle.std.specs.Ordering.{nat_cmp}
 use Rattle.std.proofs.lemmas.Bool.{true_from_ne_false}
 use Rattle.cachecore.specs.Wants.{is_busy}
 use Rattle.cachecore.proofs.SyncWaits.{never_waits}
@@ -11,7 +10,7 @@ use Rattle.pc_types.specs.declared.ids.HandleId.{HandleId}
 use Rattle.pc_types.specs.declared.ids.PageIndex.{PageIndex}
 use Rattle.pc_types.specs.declared.ids.SyncId.{SyncId}
 use Rattle.machine.specs.Changes.{boundary, sync_stepped}
-use Rattle.machine.specs.State.{Request, State, Sync, dirty_total, fills, file_at, free_blocks, free_frames, handle_file, is_cached, is_filling, is_open, tags_at, touched, touched_count, without_block}
+use Rattle.machine.specs.State.{State, Sync, dirty_total, fills, file_at, free_blocks, free_frames, handle_file, is_cached, is_filling, is_open, no_file, tags_at, tags_of, touched, touched_count, without_block}
 use Rattle.machine.specs.Step.{MayReply, Step}
 use Rattle.machine.specs.Tests.{first_of, read_count, read_stop, room_tests, stopped, tests, truncate_stop, write_stop, write_tests}
 use Rattle.machine.specs.declared.event.Event.{Event}
@@ -19,7 +18,7 @@ use Rattle.machine.specs.declared.event.Event.TheVariants as event
 use Rattle.machine.specs.declared.event.Reply.{Reply}
 use Rattle.machine.specs.declared.event.Reply.TheVariants as reply
 use Rattle.machine.proofs.steps.Cases.{answered}
-use Rattle.machine.proofs.steps.Choices.{quiet_if, quiet_none, quiet_some, quiet_when}
+use Rattle.machine.proofs.steps.Choices.{quiet_if, quiet_none, quiet_some}
 use Rattle.orderly.proofs.Orderly.{none_under}
 use Rattle.orderly.specs.Orderly.{IsOrderly}
 use Rattle.shared.specs.Changes.{event_of}
@@ -105,17 +104,24 @@ module _ (s : State) where
   change_busy (change.Truncate z) h b p new = by_test (event.Truncate h z) p new (cut_waits h z) (λ may. may)
 
   -- a sync waits for a write in flight: of the page that it comes to, or one that it awaits
-  pub step_busy : IsOrderly s → (m : SyncId) (p : PageIndex) (new : State) → Step s (event.SyncStep m) (reply.Wait p) new → is_busy new ≡ true
-  step_busy orderly m p new step =
-      ap (λ (x : finmap.FinMap nat_cmp Request). nat_lt 0 (finmap.len x)) requests
-      ∙ true_from_ne_false (is_busy s) (λ rests. never_waits s (no_requests s rests) (none_under s orderly (no_requests s rests)) m p new step)
+  pub step_busy : (m : SyncId) (p : PageIndex) (new : State) → IsOrderly new → Step s (event.SyncStep m) (reply.Wait p) new → is_busy new ≡ true
+  step_busy m p new orderly step = true_from_ne_false (is_busy new) never
     where
-      stays : (o : Option Sync) → (sync_stepped s m.0 o (reply.Wait p)).requests ≡ s.requests
-      stays None = refl
-      stays (Some y) = refl
+      -- the step leaves the requests and the files
+      stays : (o : Option Sync) → ((sync_stepped s m.0 o (reply.Wait p)).requests ≡ s.requests) × ((sync_stepped s m.0 o (reply.Wait p)).files ≡ s.files)
+      stays None = (refl, refl)
+      stays (Some y) = (refl, refl)
 
-      requests : new.requests ≡ s.requests
-      requests = elim (answered (tests s (event.SyncStep m)) s (event.SyncStep m) (reply.Wait p) new step) [
-        | inl a ↦ ap (λ (x : State). x.requests) a.1
-        | inr a ↦ ap (λ (x : State). x.requests) a.2 ∙ stays (finmap.get s.syncs m.0)
+      kept : (new.requests ≡ s.requests) × (new.files ≡ s.files)
+      kept = elim (answered (tests s (event.SyncStep m)) s (event.SyncStep m) (reply.Wait p) new step) [
+        | inl a ↦ (ap (λ (x : State). x.requests) a.1, ap (λ (x : State). x.files) a.1)
+        | inr a ↦ (let k = stays (finmap.get s.syncs m.0) in
+            (ap (λ (x : State). x.requests) a.2 ∙ k.0, ap (λ (x : State). x.files) a.2 ∙ k.1))
       ]
+
+      never : is_busy new ≡ false → ⊥
+      never rests =
+          let none = no_requests new rests in
+          never_waits s (sym kept.0 ∙ none)
+          (λ f q w. none_under new orderly none f q
+          (ap (λ fs. (tags_of (finmap.get (slice_index_or fs f no_file).pages q)).writeback) kept.1 ∙ w)) m p new step

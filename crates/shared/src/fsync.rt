@@ -241,9 +241,6 @@ impl<B: Naming, D: BlockDevice, T: Trail> SharedCache<B, D, T> {
         ensures settled { Settles B.name seat.old seat.new }
     {
         let mut guard = self.state.lock(rt);
-        // Lend that the history is legal, and that the sizes are within their limits. So a page that is being written has a request in flight.
-        let _ = guard.core();
-        let _ = self.geometry.page();
         let (stepped, slip) = match guard.sync_step(seat, sync, buffer) {
             Ok(made) => made,
             Err((denied, buffer)) => {
@@ -256,6 +253,9 @@ impl<B: Naming, D: BlockDevice, T: Trail> SharedCache<B, D, T> {
         let job = match stepped {
             SyncMoved::Job(job) => job,
             SyncMoved::Wait(_, buffer) => {
+                // Lend that the history is legal, and that the sizes are within their limits. So the write of that page is in flight.
+                let _ = guard.core();
+                let _ = self.geometry.page();
                 self.wait_for_end(rt, guard);
                 return Ok((None, buffer));
             }

@@ -144,11 +144,13 @@ flush_by-buffer-requires-clause-kind g c =
 -- who is told to wait can: a request is in flight
 pub wait_for_end-requires : goal.wait_for_end-requires
 wait_for_end-requires g c =
-    let geometry : IsTrue (is_geometry g.B.Naming.sizes) = subst (λ (z : Sizes). IsTrue (is_geometry z)) c.self.sized c.page.ensures.within in
-    let legal : After g.B.Naming.files g.B.Naming.sizes g.B.Naming.name c.deref_mut.result.now.log.history c.deref_mut.result.now.core.state =
-    subst (λ (s : HeldSeen). After g.B.Naming.files g.B.Naming.sizes g.B.Naming.name s.log.history s.core.state)
-    (c.deref.ensures ∙ sym c.deref_mut.ensures.value) c.core.ensures.named in
-    step_busy c.deref_mut.result.now.core.state (kept_after g.B.Naming.files g.B.Naming.sizes g.B.Naming.name _ _ geometry legal).orderly
-    c.args.sync c.in-Wait.field-0 c.sync_step.new.self.core.state
-    (subst (λ (x : SyncStepped). Made (event.SyncStep c.args.sync) (sync_stepped (Ok x)) c.deref_mut.result.now c.sync_step.new.self
+    let new = c.sync_step.new.self in
+    let geometry : IsTrue (is_geometry g.B.Naming.sizes) =
+    subst (λ (z : Sizes). IsTrue (is_geometry z)) c.args.self.now.sized c.page.ensures.within in
+    let legal : After g.B.Naming.files g.B.Naming.sizes g.B.Naming.name new.log.history new.core.state =
+    subst (λ (s : HeldSeen). After g.B.Naming.files g.B.Naming.sizes g.B.Naming.name s.log.history s.core.state) c.deref.ensures
+    c.core.ensures.named in
+    step_busy c.deref_mut.result.now.core.state c.args.sync c.in-Wait.field-0 new.core.state
+    (kept_after g.B.Naming.files g.B.Naming.sizes g.B.Naming.name new.log.history new.core.state geometry legal).orderly
+    (subst (λ (x : SyncStepped). Made (event.SyncStep c.args.sync) (sync_stepped (Ok x)) c.deref_mut.result.now new
     c.args.seat.now c.sync_step.new.seat c.in-Ok.made.1) (ap as_sync c.in-Wait.is) c.in-Ok.ensures.made).step
