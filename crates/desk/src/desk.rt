@@ -14,7 +14,7 @@ ghost use Rattle.filesvc.specs.Seen.{HandleSeen};
 ghost use Rattle.filesvc.specs.Service.{AreOnDevice, FilesAfter, IsOnDevice, Serves, Tells, files};
 ghost use Rattle.desk.specs.Seen.{IsExtentNow, NoExtentNow, OthersKept, Stays, file_of, handle_at, with_file};
 
-use crate::long::{read_long, write_long};
+use crate::long::{read_any, write_any};
 use blockdev::BlockDevice;
 use catalog::{Catalog, Extent};
 use filesvc::{Handle, Seek, Solo};
@@ -128,7 +128,7 @@ impl<D: BlockDevice> Desk<D> {
         let Some(handle) = self.handles.get(number.0 as usize) else {
             return Err(Refusal::BadHandle);
         };
-        read_long(&mut self.solo, handle, self.page, offset, out)
+        read_any(&mut self.solo, handle, self.page, offset, out)
     }
 
     /// Writes bytes into the file from `offset` on, and answers how many from their front: all, or as many as were written before a part
@@ -145,7 +145,7 @@ impl<D: BlockDevice> Desk<D> {
         let Some(handle) = self.handles.get(number.0 as usize) else {
             return Err(Refusal::BadHandle);
         };
-        write_long(&mut self.solo, handle, self.page, offset, bytes)
+        write_any(&mut self.solo, handle, self.page, offset, bytes)
     }
 
     /// Makes the file as long as this.

@@ -12,24 +12,44 @@ use filesvc::{Handle, Solo};
 use pc_types::Refusal;
 use pc_types::limits::MAX_TOUCHED;
 
-/// How many of the bytes that are left from an offset on one call may be of: all, or those up to the end of the sixteenth page that they
-/// touch.
-fn part(page: u64, offset: u64, left: usize) -> usize
-    requires { 0 < left }
-    ensures some { 0 < result }
-    ensures most { result ≤ left }
+/// Whether so many bytes are some, and touch 16 pages at most wherever they begin. So most calls are one of the service, and divide nothing.
+#[inline(always)]
+fn is_short(page: u64, count: usize) -> bool {
+    0 < count && count as u64 <= page.saturating_mul(MAX_TOUCHED - 1)
+}
+
+/// How many bytes from an offset on one call may be of: to the end of the sixteenth page that they touch.
+fn span(page: u64, offset: u64) -> u64
+    ensures { 0 < result }
 {
-    // Bytes of fifteen pages touch sixteen at most, wherever they begin. So most calls divide nothing.
-    if left as u64 <= page.saturating_mul(MAX_TOUCHED - 1) {
-        return left;
-    }
     let all = page.saturating_mul(MAX_TOUCHED);
     let before = offset.checked_rem(page).unwrap_or(0);
-    left.min(all.saturating_sub(before).max(1) as usize)
+    all.saturating_sub(before).max(1)
 }
 
 /// Reads as `Solo::pread` does, but any number of bytes.
-pub(crate) fn read_long<D: BlockDevice>(
+#[inline(always)]
+pub(crate) fn read_any<D: BlockDevice>(
+    solo: &mut Solo<D>,
+    handle: &Handle,
+    page: u64,
+    offset: u64,
+    out: &mut [u8],
+) -> Result<u64, Refusal>
+    requires open { IsOpen solo.old handle.now }
+    ensures serves { Serves solo.old solo.new }
+    ensures bytes { Tells solo.old → IfOk result (λ n. take n out.new ≡ plain.pread (plain_file (files solo.old) handle.now.file) offset (length out.old)) }
+    ensures all { IfOk result (λ n. n ≡ min (length out.old) ((file_at solo.old.world.core handle.now.file).size - offset)) }
+{
+    if is_short(page, out.len()) {
+        return solo.pread(handle, offset, out);
+    }
+    read_long(solo, handle, page, offset, out)
+}
+
+/// The same, in parts.
+#[inline(never)]
+fn read_long<D: BlockDevice>(
     solo: &mut Solo<D>,
     handle: &Handle,
     page: u64,
@@ -47,7 +67,7 @@ pub(crate) fn read_long<D: BlockDevice>(
         let Some(at) = offset.checked_add(done as u64) else {
             return Err(Refusal::TooLarge);
         };
-        let end = done + part(page, at, out.len() - done);
+        let end = out.len().min(done.saturating_add(span(page, at) as usize));
         let part = &mut out[done..end];
         let count = solo.pread(handle, at, part)? as usize;
         done += count;
@@ -59,7 +79,29 @@ pub(crate) fn read_long<D: BlockDevice>(
 }
 
 /// Writes as `Solo::pwrite` does, but any number of bytes. What was written before a part is refused is counted.
-pub(crate) fn write_long<D: BlockDevice>(
+#[inline(always)]
+pub(crate) fn write_any<D: BlockDevice>(
+    solo: &mut Solo<D>,
+    handle: &Handle,
+    page: u64,
+    offset: u64,
+    bytes: &[u8],
+) -> Result<u64, Refusal>
+    requires open { IsOpen solo.old handle.now }
+    ensures keeps { Keeps solo.old solo.new }
+    ensures count { IfOk result (λ n. n ≤ length bytes.now) }
+    ensures file { Tells solo.old → IfOk result (λ n. files solo.new ≡ with_file (files solo.old) handle.now.file (plain.pwrite (plain_file (files solo.old) handle.now.file) offset (take n bytes.now))) }
+    ensures refused { Tells solo.old → OnErr result (files solo.new ≡ files solo.old) }
+{
+    if is_short(page, bytes.len()) {
+        return solo.pwrite(handle, offset, bytes);
+    }
+    write_long(solo, handle, page, offset, bytes)
+}
+
+/// The same, in parts.
+#[inline(never)]
+fn write_long<D: BlockDevice>(
     solo: &mut Solo<D>,
     handle: &Handle,
     page: u64,
@@ -77,7 +119,9 @@ pub(crate) fn write_long<D: BlockDevice>(
         let Some(at) = offset.checked_add(done as u64) else {
             return Ok(done as u64);
         };
-        let end = done + part(page, at, bytes.len() - done);
+        let end = bytes
+            .len()
+            .min(done.saturating_add(span(page, at) as usize));
         match solo.pwrite(handle, at, &bytes[done..end]) {
             Ok(_) => done = end,
             Err(refusal) => {

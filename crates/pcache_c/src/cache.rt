@@ -119,6 +119,7 @@ impl Cache {
     }
 
     /// What a call answers that ended so. The code of a failed device call is noted, and a call that the device could not answer yet waits.
+    #[inline(always)]
     pub fn answer(&mut self, done: Result<u64, Refusal>) -> i64
         ensures counted { (n : ℕ) → result ≡ pos n → done ≡ Ok n }
         ensures unknown { done ≡ Err BadHandle → result ≡ bad_handle }

@@ -2,8 +2,8 @@ use Rattle.std.proofs.Common.{sym}
 use Rattle.desk.proofs.Tables.{no_places, stays_but, table_stays}
 use Rattle.desk.proofs.desk.Desk.pread.Goals as goal
 
-pub read_long-requires : goal.read_long-requires
-read_long-requires g c = record { «open» = c.self.invariant.0.opened _ _ (sym c.in-Some.ensures) }
+pub read_any-requires : goal.read_any-requires
+read_any-requires g c = record { «open» = c.self.invariant.0.opened _ _ (sym c.in-Some.ensures) }
 
 pub invariant_of-self-2 : goal.invariant_of-self-2
-invariant_of-self-2 g c = (table_stays _ _ _ (stays_but _ _ c.read_long.ensures.serves.keeps) c.self.invariant.0, no_places c.read_long.new.solo _ c.forget.ensures)
+invariant_of-self-2 g c = (table_stays _ _ _ (stays_but _ _ c.read_any.ensures.serves.keeps) c.self.invariant.0, no_places c.read_any.new.solo _ c.forget.ensures)
