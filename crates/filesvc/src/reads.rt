@@ -22,6 +22,8 @@ use pc_types::{HandleId, Refusal};
 impl<D: BlockDevice> Solo<D> {
     /// Reads the bytes from `offset` on into the front of `out`, and answers how many: as many as it takes, and none past the
     /// end of the file. A read touches 16 pages at most.
+    // A caller that has it inlined reads a cached page by half the instructions (decision 222).
+    #[inline(always)]
     pub fn pread(&mut self, handle: &Handle, offset: u64, out: &mut [u8]) -> Result<u64, Refusal>
         requires came { CameFrom self.old handle.now }
         ensures foreign { handle.now.cache ≢ self.old.world.core.name → (result ≡ Err BadHandle) × IsUntried self.old self.new }
